@@ -1,0 +1,3 @@
+pub mod Back
+pub mod Channel
+pub mod Unit

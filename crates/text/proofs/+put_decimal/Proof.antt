@@ -1,0 +1,61 @@
+-- `text::put_decimal` meets its contract: below 10 one digit, else those of the tenth part and one more. The measure is the number. Assumes nothing.
+use Prim.Native.Nat.{ℕ, _<_}
+use mathlib.Core.Path.{ap}
+use native.Mathlib.Omega.{arith}
+use borrow.Author.Needs.{needs}
+use borrow.Fn.Kinds.{In}
+use borrow.Fn.PlainCycle.{Measures, is, falls, and}
+use lib.ListN.{length, length-append}
+use Rattle.text.proofs.Decimal.{decimal-small, decimal-large}
+use Rattle.text.proofs.Writes.{_then_}
+use Rattle.text.proofs.put_decimal.Reads as put-decimal
+use Rattle.text.proofs.put_decimal.Kinds as put-decimal-kinds
+use Rattle.text.proofs.+put_decimal.Lts-put_decimal as put-decimal-lts
+use Rattle.text.proofs.digit.Reads as digit-reads
+use Rattle.text.proofs.put_byte.Reads as put-byte-reads
+use Rattle.text.proofs.+put_decimal.{statement}
+use Rattle.text.proofs.+put_decimal.Tie.{close}
+
+abbrev μ-put-decimal : Measures 1 put-decimal-kinds.ps ℕ
+μ-put-decimal κs a = a .0
+
+abbrev put-decimal-at : ℕ → In 1 put-decimal-kinds.ps
+put-decimal-at t = and 1 put-decimal-kinds.ps (is 1 put-decimal-kinds.ps μ-put-decimal t) put-decimal.Pre
+
+abbrev put-decimal-below : ℕ → In 1 put-decimal-kinds.ps
+put-decimal-below t =
+    and 1 put-decimal-kinds.ps (falls 1 put-decimal-kinds.ps _<_ μ-put-decimal t) put-decimal.Pre
+
+pub +put-decimal-spec : {M : Type 1} → statement M
++put-decimal-spec = close μ-put-decimal λ t. put-decimal-lts.spec (
+  digit-reads.Asked,
+  digit-reads.Learnt,
+  put-byte-reads.Asked,
+  put-byte-reads.Learnt,
+  put-decimal-below t,
+  put-decimal.Post,
+)
+    (put-decimal-at t)
+    put-decimal.Post
+    (λ c. search needs)
+    (λ c κs. search needs)
+    (λ c κs. omega (arith, ap length (decimal-small (c .before .before .before .before .args .n) (c .before .if1 .taken))))
+    (λ c. search needs)
+    (λ c.
+    let n = c .before .before .before .before .before .before .before .args .n in
+    rw (decimal-small n (c .before .before .before .before .if1 .taken), ← c .before .before .before .before .before .digit .ensures)
+    (c .before .before .put-byte .ensures))
+    (λ c κs.
+    let n = c .before .before .before .before .args .n in
+    let e = simp length-append at (ap length (decimal-large n (c .before .if1 .left))) in
+    (omega arith, omega arith))
+    (λ c κs.
+    let n = c .before .before .before .before .before .before .before .before .args .n in
+    let e = simp length-append at (ap length (decimal-large n (c .before .before .before .before .before .if1 .left))) in
+    omega arith)
+    (λ c. search needs)
+    (λ c.
+    let tested = c .before .before .before .before .before .before .before .before in
+    let n = tested .before .before .before .args .n in
+    rw (decimal-large n (tested .if1 .left), ← tested .before .digit .ensures)
+    (c .before .before .before .before .before .before .put-decimal .ensures then c .before .before .put-byte2 .ensures))

@@ -1,0 +1,10 @@
+-- `text::put_hex1` meets its contract. Assumes nothing.
+use borrow.Author.Needs.{needs}
+use Rattle.text.proofs.put_hex1.Statement.{statement}
+use Rattle.text.proofs.put_hex1.Tie as tie
+
+returns : tie.Need-returns
+returns c = rw (← c .before .before .before .before .digit .ensures) (c .before .before .put-byte .ensures)
+
+pub put-hex1-spec : {M : Type 1} → statement M
+put-hex1-spec = tie.close (tie.spec (λ c κs. search needs) (λ c κs. search needs) (λ c. search needs) returns)

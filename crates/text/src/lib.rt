@@ -1,0 +1,90 @@
+// Texts in a lent output: part after part at a place that moves on, and a whole text, or a refusal.
+// The part writers, `put` and `put_..`, stand in for `fmt::Formatter`: only proved code can call them, since they require room.
+ghost use mathlib.Core.Path.{_≡_};
+ghost use mathlib.Core.List.{[], _∷_};
+ghost use Prim.Native.Nat.{_<_, _+_, _≤_};
+ghost use lib.ListN.{length};
+ghost use Rattle.text.specs.Numbers.{decimal, digitOf, hex};
+ghost use Rattle.text.specs.Text.{Put};
+ghost use Rattle.text.specs.Written.{Wrote};
+
+// What the writer of a text answers.
+pub enum Written {
+    // The length of the text, which is written.
+    Length(usize),
+    // The length needed; nothing is written.
+    NoRoom(usize),
+}
+
+// Writes the text to the start of out, or refuses, where out is shorter: the one test for room of all writers.
+pub fn write(text: &[u8], out: &mut [u8]) -> Written
+    ensures { λ r. ⌜ Wrote (now (text .entry)) (now (out .entry)) r (now (out .exit)) ⌝ }
+{
+    if out.len() < text.len() {
+        return Written::NoRoom(text.len());
+    }
+    let n = put(text, out, 0);
+    Written::Length(n)
+}
+
+// Puts all of the text into out at the place at, and answers the place after it.
+pub fn put(text: &[u8], out: &mut [u8], at: usize) -> usize
+    requires { ⌜ at + length (now text) ≤ length (now out) ⌝ }
+    ensures { λ r. ⌜ Put (now (out .entry)) (now (out .exit)) at r (now (text .entry)) ⌝ }
+{
+    let n = bytes::copy(text, &mut out[at..]);
+    at + n
+}
+
+pub fn put_byte(b: u8, out: &mut [u8], at: usize) -> usize
+    requires { ⌜ at + 1 ≤ length (now out) ⌝ }
+    ensures { λ r. ⌜ Put (now (out .entry)) (now (out .exit)) at r (b ∷ []) ⌝ }
+{
+    out[at] = b;
+    at + 1
+}
+
+pub fn put_decimal(n: u32, out: &mut [u8], at: usize) -> usize
+    requires { ⌜ at + length (decimal n) ≤ length (now out) ⌝ }
+    ensures { λ r. ⌜ Put (now (out .entry)) (now (out .exit)) at r (decimal n) ⌝ }
+{
+    let last = digit((n % 10) as u8);
+    if n < 10 {
+        return put_byte(last, out, at);
+    }
+    let next = put_decimal(n / 10, out, at);
+    put_byte(last, out, next)
+}
+
+// Puts the low four bits of a byte, a byte, or a number of 16 bits, in hexadecimal, in upper case.
+pub fn put_hex1(b: u8, out: &mut [u8], at: usize) -> usize
+    requires { ⌜ at + 1 ≤ length (now out) ⌝ }
+    ensures { λ r. ⌜ Put (now (out .entry)) (now (out .exit)) at r (hex 1 b) ⌝ }
+{
+    put_byte(digit(b % 16), out, at)
+}
+
+pub fn put_hex2(b: u8, out: &mut [u8], at: usize) -> usize
+    requires { ⌜ at + 2 ≤ length (now out) ⌝ }
+    ensures { λ r. ⌜ Put (now (out .entry)) (now (out .exit)) at r (hex 2 b) ⌝ }
+{
+    let next = put_hex1(b / 16, out, at);
+    put_hex1(b, out, next)
+}
+
+pub fn put_hex4(v: u16, out: &mut [u8], at: usize) -> usize
+    requires { ⌜ at + 4 ≤ length (now out) ⌝ }
+    ensures { λ r. ⌜ Put (now (out .entry)) (now (out .exit)) at r (hex 4 v) ⌝ }
+{
+    let next = put_hex2((v / 256) as u8, out, at);
+    put_hex2((v % 256) as u8, out, next)
+}
+
+const DIGITS: [u8; 16] = *b"0123456789ABCDEF";
+
+fn digit(d: u8) -> u8
+    requires { ⌜ d < 16 ⌝ }
+    ensures { λ r. ⌜ r ≡ digitOf d ⌝ }
+{
+    DIGITS[d as usize]
+}

@@ -1,0 +1,1 @@
+//! Stand-in: nothing of this module is asked.

@@ -1,0 +1,6 @@
+//! Stand-in: the names alone.
+
+pub struct FreeSpace;
+pub struct GetRepositoryInfo;
+pub struct Operation;
+pub struct RepositoryInfo;

@@ -1,0 +1,4 @@
+//! Stand-in: the names alone.
+
+pub struct GetDeviceSdr;
+pub struct RecordInfo;

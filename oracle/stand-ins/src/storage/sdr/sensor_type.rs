@@ -1,0 +1,71 @@
+//! Stand-in: the sensor types that have event texts, by the codes in the
+//! comments of event_offset.rs; all others are one.
+
+#[derive(Debug, Clone, Copy, PartialEq)]
+pub enum SensorType {
+    ChassisIntrusion,
+    PlatformSecurityViolationAttempt,
+    Processor,
+    PowerSupply,
+    PowerUnit,
+    Memory,
+    DriveSlotBay,
+    SystemFirmwareProgress,
+    EventLoggingDisabled,
+    Watchdog1,
+    SystemEvent,
+    CriticalInterrupt,
+    ButtonOrSwitch,
+    ChipSet,
+    SystemBootOrRestartInitiated,
+    BootError,
+    BaseOsBootOrInstallationStatus,
+    OsStopOrShutdown,
+    SystemACPIPowerState,
+    Watchdog2,
+    PlatformAlert,
+    EntityPresence,
+    LAN,
+    ManagementSubSysHealth,
+    Battery,
+    SessionAudit,
+    VersionChange,
+    FRUState,
+    Other,
+}
+
+impl From<u8> for SensorType {
+    fn from(code: u8) -> Self {
+        match code {
+            0x05 => Self::ChassisIntrusion,
+            0x06 => Self::PlatformSecurityViolationAttempt,
+            0x07 => Self::Processor,
+            0x08 => Self::PowerSupply,
+            0x09 => Self::PowerUnit,
+            0x0C => Self::Memory,
+            0x0D => Self::DriveSlotBay,
+            0x0F => Self::SystemFirmwareProgress,
+            0x10 => Self::EventLoggingDisabled,
+            0x11 => Self::Watchdog1,
+            0x12 => Self::SystemEvent,
+            0x13 => Self::CriticalInterrupt,
+            0x14 => Self::ButtonOrSwitch,
+            0x19 => Self::ChipSet,
+            0x1D => Self::SystemBootOrRestartInitiated,
+            0x1E => Self::BootError,
+            0x1F => Self::BaseOsBootOrInstallationStatus,
+            0x20 => Self::OsStopOrShutdown,
+            0x22 => Self::SystemACPIPowerState,
+            0x23 => Self::Watchdog2,
+            0x24 => Self::PlatformAlert,
+            0x25 => Self::EntityPresence,
+            0x27 => Self::LAN,
+            0x28 => Self::ManagementSubSysHealth,
+            0x29 => Self::Battery,
+            0x2A => Self::SessionAudit,
+            0x2B => Self::VersionChange,
+            0x2C => Self::FRUState,
+            _ => Self::Other,
+        }
+    }
+}

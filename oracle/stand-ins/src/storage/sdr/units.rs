@@ -1,0 +1,3 @@
+//! Stand-in: the names alone.
+
+pub struct Unit;

@@ -45,6 +45,9 @@ channel-back valid =
         let z : _≡_ {A = ℕ} 0 1 = cc in
         omega arith
 
+pub three : (m : ℕ) → m < 4 → (m ≡ 0 → ⊥) → (m ≡ 1 → ⊥) → (m ≡ 2 → ⊥) → m ≡ 3
+three m h a b c = omega (arith, a, b, c)
+
 -- a number of two bits is 0, 1, 2 or 3
 two-bits : (m : ℕ) → m < 4 → (if eqb m 0 then 0 else if eqb m 1 then 1 else if eqb m 2 then 2 else 3) ≡ m
 two-bits m h = by (eqb m 0) (eqb m 1) (eqb m 2) refl refl refl
@@ -53,7 +56,7 @@ two-bits m h = by (eqb m 0) (eqb m 1) (eqb m 2) refl refl refl
     by true b c i j k = sym (eqb-true m 0 i)
     by false true c i j k = sym (eqb-true m 1 j)
     by false false true i j k = sym (eqb-true m 2 k)
-    by false false false i j k = omega (arith, eqb-false m 0 i, eqb-false m 1 j, eqb-false m 2 k)
+    by false false false i j k = sym (three m h (eqb-false m 0 i) (eqb-false m 1 j) (eqb-false m 2 k))
 
 unit-low : (n : ℕ) → unitNumber (unitOf n) ≡ bits 1 0 n
 unfolding unitOf

@@ -105,14 +105,14 @@ copied out text at h e p =
           ∙ sym (append-assoc (take at out) text rest);
     }
 
--- the output is too short for a text of n bytes: it is as it was
-pub refused : (text out : List ℕ) {n : ℕ} → n ≡ length text → length out < n → Wrote text out (Written.NoRoom n) out
+-- the output is too short for the text: it is as it was
+pub refused : (text out : List ℕ) {r : Written} → r ≡ Written.NoRoom (length text) → length out < length text → Wrote text out r out
 refused text out e h =
     let b = lt-leb (length text) (length out) (omega arith) in
     record { answered = simp (e, b); numbered = simp (e, b); leaves = simp b }
 
--- a text of n bytes was put at the start
-pub written : (text out left : List ℕ) {n m : ℕ} → n ≡ length text → Put out left 0 m text → Wrote text out (Written.Length n) left
+-- the text was put at the start
+pub written : (text out left : List ℕ) {r : Written} {next : ℕ} → r ≡ Written.Length (length text) → Put out left 0 next text → Wrote text out r left
 unfolding placed
 written text out left e p =
     let b = le-leb (length text) (length out) (omega arith) in

@@ -1,9 +1,13 @@
 -- `field::le32_at` meets its contract: past the end it is 0. Assumes nothing.
 use mathlib.Core.Path.{sym}
+use native.Mathlib.Omega.{arith}
 use borrow.Author.Needs.{needs}
 use Rattle.field.proofs.Past.{le32-past}
 use Rattle.field.proofs.le32_at.Statement.{statement}
 use Rattle.field.proofs.le32_at.Tie as tie
+
+returns : tie.Need-returns
+returns c = omega arith
 
 returns-2 : tie.Need-returns-2
 returns-2 c = sym (le32-past (c .before .before .args .s .now) (c .before .before .args .at) (c .if1 .left))
@@ -19,5 +23,5 @@ le32-at-spec =
     (λ c. search needs)
     (λ c. search needs)
     (λ c. search needs)
-    (λ c. search needs)
+    returns
     returns-2)

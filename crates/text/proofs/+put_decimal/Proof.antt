@@ -39,23 +39,23 @@ pub +put-decimal-spec : {M : Type 1} → statement M
     put-decimal.Post
     (λ c. search needs)
     (λ c κs. search needs)
-    (λ c κs. omega (arith, ap length (decimal-small (c .before .before .before .before .args .n) (c .before .if1 .taken))))
+    (λ c κs. omega (arith, ap length (decimal-small (c .before .before .before .before .args .n) (omega arith))))
     (λ c. search needs)
     (λ c.
     let n = c .before .before .before .before .before .before .before .args .n in
-    rw (decimal-small n (c .before .before .before .before .if1 .taken), ← c .before .before .before .before .before .digit .ensures)
+    rw (decimal-small n (omega arith), ← c .before .before .before .before .before .digit .ensures)
     (c .before .before .put-byte .ensures))
     (λ c κs.
     let n = c .before .before .before .before .args .n in
-    let e = simp length-append at (ap length (decimal-large n (c .before .if1 .left))) in
+    let e = simp length-append at (ap length (decimal-large n (omega arith))) in
     (omega arith, omega arith))
     (λ c κs.
     let n = c .before .before .before .before .before .before .before .before .args .n in
-    let e = simp length-append at (ap length (decimal-large n (c .before .before .before .before .before .if1 .left))) in
+    let e = simp length-append at (ap length (decimal-large n (omega arith))) in
     omega arith)
     (λ c. search needs)
     (λ c.
     let tested = c .before .before .before .before .before .before .before .before in
     let n = tested .before .before .before .args .n in
-    rw (decimal-large n (tested .if1 .left), ← tested .before .digit .ensures)
+    rw (decimal-large n (omega arith), ← tested .before .digit .ensures)
     (c .before .before .before .before .before .before .put-decimal .ensures then c .before .before .put-byte2 .ensures))

@@ -1,6 +1,7 @@
 -- `text::write` meets its contract. Assumes nothing.
-use mathlib.Core.Path.{refl, _∙_}
-use native.Mathlib.Nat.{zero-add}
+use mathlib.Core.Path.{refl, ap}
+use native.Mathlib.Omega.{arith}
+use Rattle.text.specs.declared.Written.{Written}
 use Rattle.text.proofs.Writes.{refused, written}
 use borrow.Author.Needs.{needs}
 use Rattle.text.proofs.write.Statement.{statement}
@@ -15,7 +16,7 @@ returns-2 : tie.Need-returns-2
 returns-2 c =
     let a = c .before .before .before .before .before .before .before .args in
     let p = c .before .before .put .ensures in
-    written (a .text .now) (a .out .now) _ (p .ends ∙ zero-add _) p
+    written (a .text .now) (a .out .now) _ (ap Written.Length (omega (arith, p .ends))) p
 
 pub write-spec : {M : Type 1} → statement M
 write-spec = tie.close (tie.spec returns (λ c κs. search needs) (λ c. search needs) returns-2)

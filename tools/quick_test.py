@@ -1,0 +1,63 @@
+"""Each quick test fails on a planted fault, and a tree without fault passes."""
+import sys
+import tempfile
+from pathlib import Path
+
+sys.dont_write_bytecode = True
+sys.path.insert(0, str(Path(__file__).parent))
+from quick import faults
+
+LIB, EDIT = 'crates/a/src/lib.rt', 'crates/a/must-fail/x.edit'
+SPEC, PROOF, PAGE = 'crates/a/specs/Lib.antt', 'crates/a/proofs/Lib.antt', 'docs/STATEMENTS.md'
+CLEAR = 'pub fn clear(s: &mut [u8]) -> u8\n    ensures { λ _. ⌜ now (s .exit) ≡ now (s .entry) ⌝ }\n{\n    0\n}\n'
+PUT = 'pub fn put(s: &mut [u8]) -> u8\n    requires { ⌜ 1 ≤ length (now s) ⌝ }\n    ensures { λ _. ⌜ now (s .exit) ≡ now (s .entry) ⌝ }\n{\n    0\n}\n'
+THEOREM = 'pub record Demand : Type 0 where\n  -- one\n  pub one : (n : ℕ) → n ≡ n\n'
+GOOD = {
+    'crates.txt': 'a:\n',
+    LIB: CLEAR,
+    SPEC: THEOREM + '\npub record Data : Type 0 where\n  pub number : ℕ\n',
+    PROOF: '-- what? a comment\npub demand : Demand\ndemand = record { one = λ n. refl }\n',
+    EDIT: '# a wrong program\n# refused: 0 is not 1 (returns)\nfile: src/lib.rt\nold: 0\nnew: 1\n',
+    PAGE: '',
+}
+# What is planted, and a word of what is then said.
+PLANTED = [
+    ({'crates/b/src/lib.rt': '// nothing\n'}, 'crates/b is not listed'),
+    ({'crates.txt': 'a:\nc:\n'}, 'lists c, which is not there'),
+    ({LIB: 'pub fn f() -> u8 {\n    0\n}\n'}, 'has no ensures'),
+    ({LIB: '#[no_mangle]\npub extern "C" fn f() -> u8 {\n    0\n}\n'}, 'has no ensures'),
+    ({LIB: '// ensures { .exit }\npub fn f() -> u8 {\n    0\n}\n'}, 'has no ensures'),
+    ({LIB: CLEAR.replace('(s .exit)', '(s .entry)')}, 'names s .exit'),
+    ({LIB: CLEAR.replace("(s: &mut [u8])", "<'a>(s: &'a mut [u8])").replace('(s .exit)', '(s .entry)')}, 'names s .exit'),
+    ({LIB: PUT}, 'does not list'),
+    ({LIB: PUT.replace('fn put(', 'fn f('), PAGE: '- `a::f` requires a place\n'}, 'is no part writer'),
+    ({PAGE: '- `a::put_old` requires room\n'}, 'is listed, and has no requires'),
+    ({PROOF: GOOD[PROOF] + 'returns c = ?\n'}, 'a hole'),
+    ({PROOF: GOOD[PROOF] + 'returns c = (omega arith, ?)\n'}, 'a hole'),
+    ({EDIT: '# a wrong program\nfile: src/lib.rt\n'}, 'two comment lines'),
+    ({EDIT: GOOD[EDIT].replace('# refused: 0 is not 1 (returns)', '# refused: fact')}, 'two comment lines'),
+    ({EDIT: GOOD[EDIT].replace('# a wrong program\n', '')}, 'two comment lines'),
+    ({PROOF: '-- pub demand : Demand\n'}, 'specs/ states Demand'),
+    ({PROOF: GOOD[PROOF].replace('pub demand', 'demand')}, 'specs/ states Demand'),
+    ({PROOF: 'pub demand : ⊥ → Demand\ndemand ()\n'}, 'specs/ states Demand'),
+    ({SPEC: GOOD[SPEC] + '\npub record All : Type 0 where\n  pub demand : Demand\n'}, 'specs/ states All'),
+    ({LIB: CLEAR.replace('    0', '  0')}, 'rt fmt --check'),
+]
+
+
+def tried(tree):
+    with tempfile.TemporaryDirectory() as d:
+        for name, text in tree.items():
+            (Path(d) / name).parent.mkdir(parents=True, exist_ok=True)
+            (Path(d) / name).write_text(text)
+        return list(faults(Path(d).resolve()))
+
+
+bad = [f'the tree without fault: {x}' for x in tried(GOOD)]
+bad += [f'the listed part writer: {x}' for x in tried({**GOOD, LIB: PUT, PAGE: '- `a::put` requires room for a byte\n'})]
+for change, word in PLANTED:
+    said = tried({**GOOD, **change})
+    if not any(word in x for x in said):
+        bad.append(f'planted, and not found: {word} (said: {said})')
+print(*bad, sep='\n', end='\n' if bad else '')
+sys.exit(bool(bad))

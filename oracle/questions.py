@@ -35,6 +35,31 @@ def allocations():
             yield question("a", byte * length)
 
 
+EDGES = (0x00, 0x01, 0xFE, 0xFF)
+
+
+def event_data():
+    """Every first byte, so every offset and both kinds, with values at the edges."""
+    for kind in ("d", "v"):
+        for first in range(256):
+            for second in EDGES:
+                for third in EDGES:
+                    yield question(kind, [first, second, third])
+
+
+def event_texts():
+    """Every sensor type and every event type, with two offsets past the last; then every offset, with and without the bits that do not count."""
+    for sensor in range(256):
+        for offset in range(18):
+            yield question("x", [0x6F, sensor, offset])
+    for event in range(256):
+        for offset in range(18):
+            yield question("x", [event, 0x0C, offset])
+    for event in (0x01, 0x81, 0x6F, 0xEF):
+        for offset in range(256):
+            yield question("x", [event, 0x0C, offset])
+
+
 FILES = {
-    "crates/show/stdout": [*channels_and_units(), *time_texts(), *allocations()],
+    "crates/show/stdout": [*channels_and_units(), *time_texts(), *allocations(), *event_data(), *event_texts()],
 }

@@ -19,6 +19,9 @@ fn answer(question: &str) -> Option<String> {
     // to it turns away every other number.
     Some(match kind {
         "a" => kinds::allocation(&bytes),
+        "d" => kinds::event_data(bytes.try_into().ok()?),
+        "v" => kinds::event_data_text(bytes.try_into().ok()?),
+        "x" => kinds::event_text(bytes.try_into().ok()?),
         "t" => kinds::time_text(bytes.try_into().ok()?),
         "channel" => kinds::channel(bytes.try_into().ok()?),
         "unit" => kinds::unit(bytes.try_into().ok()?),

@@ -4,6 +4,10 @@ use connection::Channel;
 use connection::LogicalUnit;
 use connection::NewChannel;
 use connection::NewUnit;
+use event_data::EventData;
+use event_data::EventData2Type;
+use event_data::EventData3Type;
+use event_offset::Texts;
 use libc::STDOUT_FILENO;
 use storage::AllocAnswer;
 use storage::AllocInfo;
@@ -191,6 +195,103 @@ fn show_even(byte: u8) {
     }
 }
 
+fn say_second(d: EventData2Type) {
+    match d {
+        EventData2Type::Unspecified => say(b"0000"),
+        EventData2Type::TriggerReading(v) => say_kind(1, v),
+        EventData2Type::OemCode(v) => say_kind(2, v),
+        EventData2Type::SensorSpecific(v) => say_kind(3, v),
+    }
+}
+
+fn say_third(d: EventData3Type) {
+    match d {
+        EventData3Type::Unspecified => say(b"0000"),
+        EventData3Type::TriggerThreshold(v) => say_kind(1, v),
+        EventData3Type::OemCode(v) => say_kind(2, v),
+        EventData3Type::SensorSpecific(v) => say_kind(3, v),
+    }
+}
+
+fn say_kind(kind: u8, value: u8) {
+    say_hex(kind);
+    say_hex(value);
+}
+
+fn show_data(d: EventData) {
+    let second = d.data2_type;
+    let third = d.data3_type;
+    say(b"0 ");
+    say_hex(d.offset);
+    say_second(second);
+    say_third(third);
+    say(b"\n");
+}
+
+fn show_data_text(d: EventData) {
+    let mut out = [0u8; 80];
+    let w = d.write_text(&mut out);
+    show_text(w, &out);
+}
+
+const EDGES: [u8; 4] = [0x00, 0x01, 0xFE, 0xFF];
+
+// One first byte with every pair of values, as event data or as its text.
+fn show_pairs(first: u8, as_text: bool) {
+    for k in 0usize..16 {
+        let d = EventData::parse(&[first, EDGES[k / 4], EDGES[k % 4]]);
+        if as_text {
+            show_data_text(d);
+        } else {
+            show_data(d);
+        }
+    }
+}
+
+fn show_all_data(as_text: bool) {
+    for first in 0u8..=255 {
+        show_pairs(first, as_text);
+    }
+}
+
+// From the lent store, as whoever writes many texts does.
+fn show_offsets<'a>(store: &'a [u8], starts: &'a [u16], lengths: &'a [u8], event: u8, sensor: u8) {
+    for offset in 0u8..18 {
+        let mut out = [0u8; 80];
+        let w = event_offset::decode_event_from(
+            store,
+            starts,
+            lengths,
+            event,
+            sensor,
+            offset,
+            &mut out,
+        );
+        show_text(w, &out);
+    }
+}
+
+fn show_sensors<'a>(store: &'a [u8], starts: &'a [u16], lengths: &'a [u8]) {
+    for sensor in 0u8..=255 {
+        show_offsets(store, starts, lengths, 0x6F, sensor);
+    }
+}
+
+fn show_events<'a>(store: &'a [u8], starts: &'a [u16], lengths: &'a [u8]) {
+    for event in 0u8..=255 {
+        show_offsets(store, starts, lengths, event, 0x0C);
+    }
+}
+
+// Every offset, by the plain function.
+fn show_masked(event: u8) {
+    for offset in 0u8..=255 {
+        let mut out = [0u8; 80];
+        let w = event_offset::decode_event(event, 0x0C, offset, &mut out);
+        show_text(w, &out);
+    }
+}
+
 fn main() {
     show_channels();
     show_units();
@@ -198,4 +299,13 @@ fn main() {
     show_all_mixed();
     show_even(0x00);
     show_even(0xFF);
+    show_all_data(false);
+    show_all_data(true);
+    let t = Texts::new();
+    show_sensors(&t.store, &t.starts, &t.lengths);
+    show_events(&t.store, &t.starts, &t.lengths);
+    show_masked(0x01);
+    show_masked(0x81);
+    show_masked(0x6F);
+    show_masked(0xEF);
 }

@@ -50,7 +50,7 @@ def functions(code):
 
 
 def lent_outputs(params):
-    return re.findall(r"(\w+)\s*:\s*&\s*(?:'\w+\s+)?mut\b", params)
+    return re.findall(r"(\w+)\s*:\s*&\s*(?:'\w+\s+)?mut\b", params) + re.findall(r"&\s*(?:'\w+\s+)?mut\s+(self)\b", params)
 
 
 def declarations(antt):

@@ -29,6 +29,7 @@ PLANTED = [
     ({LIB: '// ensures { .exit }\npub fn f() -> u8 {\n    0\n}\n'}, 'has no ensures'),
     ({LIB: CLEAR.replace('(s .exit)', '(s .entry)')}, 'names s .exit'),
     ({LIB: CLEAR.replace("(s: &mut [u8])", "<'a>(s: &'a mut [u8])").replace('(s .exit)', '(s .entry)')}, 'names s .exit'),
+    ({LIB: CLEAR.replace('s: &mut [u8]', '&mut self')}, 'names self .exit'),
     ({LIB: PUT}, 'does not list'),
     ({LIB: PUT.replace('fn put(', 'fn f('), PAGE: '- `a::f` requires a place\n'}, 'is no part writer'),
     ({PAGE: '- `a::put_old` requires room\n'}, 'is listed, and has no requires'),

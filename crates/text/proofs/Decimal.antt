@@ -20,28 +20,23 @@ large : (k n : ℕ) → 10 ≤ n → decimalIn (suc k) n ≡ decimalIn k (n / 10
 unfolding decimalIn
 large k n h = simp (le-ltb n 10 h)
 
--- room for more digits than there are changes nothing
-room : (j k n : ℕ) → n < j → n < k → decimalIn j n ≡ decimalIn k n
-room zero k n h i =
-    let z : ⊥ = omega arith in
-    elim z [ ]
-room (suc j) zero n h i =
-    let z : ⊥ = omega arith in
-    elim z [ ]
-room (suc j) (suc k) n h i = by (ltb n 10) refl (λ (g : 10 ≤ n). room j k (n / 10) (omega arith) (omega arith))
-  where
-    by : (b : Bool) → ltb n 10 ≡ b → (10 ≤ n → decimalIn j (n / 10) ≡ decimalIn k (n / 10))
-        → decimalIn (suc j) n ≡ decimalIn (suc k) n
-    by true t r = small j n (ltb-true n 10 t) ∙ sym (small k n (ltb-true n 10 t))
-    by false t r =
-        let g = ltb-false n 10 t in
-        large j n g ∙ ap (λ l. l ++ (digitOf (n % 10) ∷ [])) (r g) ∙ sym (large k n g)
-
 -- the tenth part of a number below a power of ten is below the power before
 tenth : (k n : ℕ) → n < 10 ^ suc k → n / 10 < 10 ^ k
 tenth k n h =
     let e : 10 ^ suc k ≡ 10 ^ k * 10 = pow-suc 10 k in
     omega arith
+
+-- one more digit of room changes nothing
+room : (k n : ℕ) → n < 10 ^ suc k → decimalIn (suc k) n ≡ decimalIn (suc (suc k)) n
+room zero n h = small zero n h ∙ sym (small (suc zero) n h)
+room (suc k) n h = by (ltb n 10) refl (room k (n / 10) (tenth (suc k) n h))
+  where
+    by : (b : Bool) → ltb n 10 ≡ b → decimalIn (suc k) (n / 10) ≡ decimalIn (suc (suc k)) (n / 10)
+        → decimalIn (suc (suc k)) n ≡ decimalIn (suc (suc (suc k))) n
+    by true t r = small (suc k) n (ltb-true n 10 t) ∙ sym (small (suc (suc k)) n (ltb-true n 10 t))
+    by false t r =
+        let g = ltb-false n 10 t in
+        large (suc k) n g ∙ ap (λ l. l ++ (digitOf (n % 10) ∷ [])) r ∙ sym (large (suc (suc k)) n g)
 
 -- a number below 10 ^ k has at most k digits
 bound : (f k n : ℕ) → n < 10 ^ suc k → length (decimalIn f n) ≤ suc k
@@ -59,12 +54,14 @@ pub decimal-small : (n : ℕ) → n < 10 → decimal n ≡ digitOf (n % 10) ∷ 
 unfolding decimal
 decimal-small n h =
     let e : n % 10 ≡ n = omega arith in
-    small n n h ∙ rw e
+    small 19 n h ∙ rw e
 
-pub decimal-large : (n : ℕ) → 10 ≤ n → decimal n ≡ decimal (n / 10) ++ (digitOf (n % 10) ∷ [])
+pub decimal-large : (n : ℕ) → n < 2 ^ 64 → 10 ≤ n → decimal n ≡ decimal (n / 10) ++ (digitOf (n % 10) ∷ [])
 unfolding decimal
-decimal-large n h = large n n h ∙ ap (λ l. l ++ (digitOf (n % 10) ∷ [])) (room n (suc (n / 10)) (n / 10) (omega arith) (omega arith))
+decimal-large n f h =
+    let b : n / 10 < 10 ^ 19 = omega arith in
+    large 19 n h ∙ ap (λ l. l ++ (digitOf (n % 10) ∷ [])) (room 18 (n / 10) b)
 
 pub decimal-length : (k n : ℕ) → n < 10 ^ suc k → length (decimal n) ≤ suc k
 unfolding decimal
-decimal-length k n h = bound (suc n) k n h
+decimal-length k n h = bound 20 k n h

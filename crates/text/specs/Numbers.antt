@@ -15,9 +15,9 @@ unfoldable pub decimalIn : ℕ → ℕ → List ℕ
 decimalIn zero n = []
 decimalIn (suc k) n = if ltb n 10 then digitOf n ∷ [] else decimalIn k (n / 10) ++ (digitOf (n % 10) ∷ [])
 
--- a number in decimal; n has at most n + 1 digits
+-- a number of 64 bits in decimal: it has at most 20 digits
 unfoldable pub decimal : ℕ → List ℕ
-decimal n = decimalIn (suc n) n
+decimal n = decimalIn 20 n
 
 -- the last k digits of a number in base 16, the highest first
 abbrev pub hex : ℕ → ℕ → List ℕ

@@ -47,15 +47,15 @@ pub +put-decimal-spec : {M : Type 1} → statement M
     (c .before .before .put-byte .ensures))
     (λ c κs.
     let n = c .before .before .before .before .args .n in
-    let e = simp length-append at (ap length (decimal-large n (omega arith))) in
+    let e = simp length-append at (ap length (decimal-large n (omega arith) (omega arith))) in
     (omega arith, omega arith))
     (λ c κs.
     let n = c .before .before .before .before .before .before .before .before .args .n in
-    let e = simp length-append at (ap length (decimal-large n (omega arith))) in
+    let e = simp length-append at (ap length (decimal-large n (omega arith) (omega arith))) in
     omega arith)
     (λ c. search needs)
     (λ c.
     let tested = c .before .before .before .before .before .before .before .before in
     let n = tested .before .before .before .args .n in
-    rw (decimal-large n (omega arith), ← tested .before .digit .ensures)
+    rw (decimal-large n (omega arith) (omega arith), ← tested .before .digit .ensures)
     (c .before .before .before .before .before .before .put-decimal .ensures then c .before .before .put-byte2 .ensures))

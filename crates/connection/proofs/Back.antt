@@ -2,13 +2,12 @@
 use Prim.Native.Nat.{ℕ, _≤_, _<_, _%_}
 use mathlib.Core.Path.{_≡_, refl, sym, ap, _∙_}
 use mathlib.Core.Bool.{Bool, true, false}
-use mathlib.Core.List.{[], _∷_}
 use native.Mathlib.Omega.{arith}
 use lib.Dec.{eqb, leb}
 use borrow.Author.Tests.{eqb-true, eqb-false, leb-true, leb-false, le-leb, lt-leb}
 use Rattle.field.specs.Choose.{if_then_else_}
 use Rattle.field.specs.Bits.{bits}
-use Rattle.field.specs.Handed.{Answers, handed}
+use Rattle.field.specs.Handed.{Answers}
 use Rattle.field.proofs.Choices.{float, answers}
 use Rattle.connection.specs.Channel.{channelAt, channelOf, channelNumber, numberOf, channelHands}
 use Rattle.connection.specs.Unit.{unitNumber, unitAt, unitOf, unitNamed}

@@ -1,6 +1,6 @@
 -- A text as the list of its bytes, and a text put into an output as a part of it. Assumes nothing.
 use Prim.Native.Nat.{ℕ, _+_, _≤_}
-use Prim.Native.Char.{Char, code}
+use Prim.Native.Char.{code}
 use Prim.Native.String.{String, [] as none, _∷_ as _then_}
 use mathlib.Core.Path.{_≡_}
 use mathlib.Core.List.{List, [], _∷_, _++_}

@@ -27,7 +27,8 @@ for text in texts:
     starts.append(len(store) if text else 0)
     store += text
 lines = '\\\n'.join('    ' + t for t in texts if t)
-(CRATE / 'src/store.rt').write_text(f'''// The store of texts and its 640 places, 40 classes by 16 offsets: written by tools/lay_out_texts.py.
+(CRATE / 'src/store.rt').write_text(f'''// The texts of src/storage/sdr/event_offset.rs of ipmi-rs-core 0.6.0, changed: one store, and its 640 places, 40 classes by 16 offsets.
+// Written by tools/lay_out_texts.py.
 // The classes are the rows of table 42-2 and then those of table 42-3; a place of length 0 has no text.
 pub(crate) const STORE: [u8; {len(store)}] = *b"\\
 {lines}";

@@ -4,8 +4,8 @@ import subprocess
 import sys
 from pathlib import Path
 
-# What stands in a field of a record that claims something, and in none that holds data.
-CLAIM = re.compile(r'[≡≢≤≥<>⊥¬]|(?<![^\s(])T (?=[\s(])')
+# What the type of data is made of, beside the types that the code declares and records of data.
+DATA = {'ℕ', 'Bool', 'List', 'String', 'Type', '→', '×'}
 
 
 def blank(pattern, text):
@@ -13,14 +13,14 @@ def blank(pattern, text):
     return re.sub(pattern, lambda m: re.sub(r'[^\n]', ' ', m.group(0)), text)
 
 
-def code_of(text):
-    """Rattle source without comments and literals."""
-    return blank(r'(?s)//[^\n]*|/\*.*?\*/|"(?:\\.|[^"\\])*"|b\'(?:\\.|[^\'\\])\'', text)
+def code_of(path):
+    """Rattle source without comments and literals, and without the comments of the antt in its clauses."""
+    return blank(r'(?s)//[^\n]*|/\*.*?\*/|\{-.*?-\}|(?<!\S)--[^\n]*|"(?:\\.|[^"\\])*"|b\'(?:\\.|[^\'\\])\'', path.read_text())
 
 
-def antt_of(text):
+def antt_of(path):
     """antt source without comments and texts."""
-    return blank(r'(?s)"(?:\\.|[^"\\])*"|\{-.*?-\}|(?<![^\s(){}.;,@"])--[^\n]*', text)
+    return blank(r'(?s)"(?:\\.|[^"\\])*"|\{-.*?-\}|(?<![^\s(){}.;,@"])--[^\n]*', path.read_text())
 
 
 def closing(code, i, pair):
@@ -34,9 +34,14 @@ def closing(code, i, pair):
     return i
 
 
+# ---- functions and their clauses
+
+
 def functions(code):
-    """(line, name, parameters, clauses by kind) of each `pub fn`."""
+    """(line, name with its type, parameters, clauses by kind) of each `pub fn`."""
+    impls = [(m.start(), closing(code, m.end() - 1, '{}'), m.group(1)) for m in re.finditer(r'\bimpl\b[^{;]*?(\w+)\s*(?:<[^>]*>)?\s*\{', code)]
     for m in re.finditer(r'\bpub\s+(?:(?:const|unsafe|extern)\s+)*fn\s+(\w+)\s*(?:<[^>]*>)?\s*\(', code):
+        name = '::'.join([t for start, end, t in impls if start < m.start() < end] + [m.group(1)])
         end = closing(code, m.end() - 1, '()')
         clauses, i = {'requires': '', 'ensures': ''}, end
         while i < len(code) and code[i] not in '{;':
@@ -46,68 +51,13 @@ def functions(code):
                 clauses[w.group(1)] += code[w.start():i]
             else:
                 i = closing(code, i, '[]') if code[i] == '[' else i + 1
-        yield code.count('\n', 0, m.start()) + 1, m.group(1), code[m.end():end - 1], clauses
+        yield code.count('\n', 0, m.start()) + 1, name, code[m.end():end - 1], clauses
 
 
-def lent_outputs(params):
-    return re.findall(r"(\w+)\s*:\s*&\s*(?:'\w+\s+)?mut\b", params) + re.findall(r"&\s*(?:'\w+\s+)?mut\s+(self)\b", params)
-
-
-def declarations(antt):
-    """(name, type) of each `pub` signature, its further lines joined."""
-    lines = antt.split('\n')
-    for k, line in enumerate(lines):
-        m = re.match(r'( *)(?:abbrev |unfoldable )?pub (\S+) (?:\{[^}]*\} )?: (.*)', line)
-        if not m:
-            continue
-        whole = m.group(3)
-        for more in lines[k + 1:]:
-            if len(more) - len(more.lstrip()) <= len(m.group(1)):
-                break
-            whole += ' ' + more.strip()
-        yield m.group(2), whole
-
-
-def premises_and_result(signature):
-    parts, depth, start = [], 0, 0
-    for i, c in enumerate(signature):
-        depth += (c in '({') - (c in ')}')
-        if c == '→' and depth == 0:
-            parts.append(signature[start:i].strip())
-            start = i + 1
-    return parts, signature[start:].strip()
-
-
-def records(antt):
-    """(name, types of its fields) of each record."""
-    for m in re.finditer(r'(?m)^pub record (\S+)[^\n]*(?:\n +[^\n]*)*? where\n((?:[ \t]+[^\n]*\n|\n)*)', antt):
-        yield m.group(1), ' ; '.join(t for _, t in declarations(m.group(2)))
-
-
-def claims(root):
-    """The records of specs/ whose fields claim something: {name: crate}."""
-    all_records = {name: (f.parts[len(root.parts) + 1], fields)
-                   for f in sorted((root / 'crates').glob('*/specs/**/*.antt')) for name, fields in records(antt_of(f.read_text()))}
-    claiming = {n for n, (_, fields) in all_records.items() if CLAIM.search(fields)}
-    while True:  # a record of theorems that are records themselves
-        more = {n for n, (_, fields) in all_records.items() if n not in claiming and any(re.search(rf'(?<!\S)\(*{re.escape(c)}(?!\S)', fields) for c in claiming)}
-        if not more:
-            return {n: all_records[n][0] for n in claiming}
-        claiming |= more
-
-
-def unproved_claims(root):
-    cited = ' '.join(f.read_text() for f in (root / 'crates').glob('*/src/**/*.rt'))
-    for name, crate in sorted(claims(root).items()):
-        is_promise = re.search(rf'(?<![\w·-]){re.escape(name)}(?![\w·-])', cited)
-        shown = False
-        for f in sorted((root / 'crates' / crate / 'proofs').rglob('*.antt')):
-            for _, signature in declarations(antt_of(f.read_text())):
-                before, result = premises_and_result(signature)
-                named = all(re.fullmatch(r'([({][^:]* : .*[)}]\s*)+', p) for p in before)
-                shown |= result.split()[0].strip('(') == name and (named or bool(is_promise))
-        if not shown:
-            yield f'crates/{crate}: specs/ states {name}, and proofs/ has no pub declaration of that type'
+def lent_outputs(params, writers):
+    """The parameters behind which a function can write: `&mut`, and a struct that holds one."""
+    lent = re.findall(r"(\w+)\s*:\s*&\s*(?:'\w+\s+)?mut\b", params) + re.findall(r"&\s*(?:'\w+\s+)?mut\s+(self)\b", params)
+    return lent + [p for p, t in re.findall(r'(\w+)\s*:\s*(\w+)', params) if t in writers]
 
 
 def listed(root):
@@ -119,31 +69,136 @@ def listed(root):
 
 def source_faults(root, crate, met):
     argued = listed(root)
-    for f in sorted((root / 'crates' / crate / 'src').rglob('*.rt')):
-        for n, name, params, clauses in functions(code_of(f.read_text())):
+    files = {f: code_of(f) for f in sorted((root / 'crates' / crate / 'src').rglob('*.rt'))}
+    writers = {m.group(1) for code in files.values() for m in re.finditer(r"\bstruct\s+(\w+)\s*<[^>]*>\s*[({][^})]*&\s*'\w+\s+mut\b", code)}
+    for f, code in files.items():
+        for n, name, params, clauses in functions(code):
             at = f'{f.relative_to(root)}:{n}: pub fn {name}'
+            lent = lent_outputs(params, writers)
             if not clauses['ensures']:
                 yield f'{at} has no ensures'
-            for p in lent_outputs(params):
+            for p in lent:
                 if not re.search(rf'(?<!\w)«?{p}»?\s*\.exit\b', clauses['ensures']):
                     yield f'{at}: no clause names {p} .exit'
             if clauses['requires']:
                 met.add(f'{crate}::{name}')
-                if not any(x.split('::')[0] == crate and x.split('::')[-1] == name for x in argued):
+                if f'{crate}::{name}' not in argued:
                     yield f'{at} has a requires that docs/STATEMENTS.md does not list'
-                elif not re.fullmatch(r'put(_\w+)?', name) or not lent_outputs(params):
+                elif not re.fullmatch(r'(\w+::)*put(_\w+)?', name) or not lent:
                     yield f'{at} has a requires and is no part writer'
+
+
+# ---- records that claim something
+
+
+def indent(line):
+    return len(line) - len(line.lstrip())
+
+
+def declarations(lines):
+    """(line number, indent, name, type) of each signature, its further lines joined; `pub` or not."""
+    for k, line in enumerate(lines):
+        m = re.match(r' *(?:abbrev |unfoldable )?(pub )?([^\s(){}]+) (?:\{[^}]*\} )?:(?: |$)(.*)', line)
+        if not m or m.group(2) in ('use', 'record', 'module', 'mod', 'data', 'let'):
+            continue
+        whole = m.group(3)
+        for more in lines[k + 1:]:
+            if more.strip() and indent(more) <= indent(line):
+                break
+            whole += ' ' + more.strip()
+        yield k, bool(m.group(1)), m.group(2), whole.strip()
+
+
+def records(antt):
+    """(name, types of its fields) of each record, also in a section."""
+    lines = antt.split('\n')
+    for k, line in enumerate(lines):
+        m = re.match(r' *(?:pub )?record ([^\s({]+)', line)
+        if not m:
+            continue
+        start = next((j for j in range(k, len(lines)) if re.search(r'(?<!\S)where\s*$', lines[j])), len(lines) - 1)
+        end = next((j for j in range(start + 1, len(lines)) if lines[j].strip() and indent(lines[j]) <= indent(line)), len(lines))
+        yield m.group(1), [t for _, _, _, t in declarations(lines[start + 1:end])]
+
+
+def of_data(kind, known):
+    return all(w in known for w in re.findall(r'[^\s(){}]+', kind))
+
+
+def claims(root):
+    """(crate, name, fields) of each record of specs/ whose fields are not all data; and the names of which data is made."""
+    found, known = [], set(DATA)
+    for f in sorted((root / 'crates').glob('*/specs/**/*.antt')):
+        antt = antt_of(f)
+        found += [(f.relative_to(root).parts[1], name, fields) for name, fields in records(antt)]
+        for m in re.finditer(r'(?m)^use \S*\.declared\.\S*\.\{([^}]*)\}', antt):
+            known |= {n.strip() for n in m.group(1).split(',')}
+    while True:  # a record of data is data for the next
+        claiming = [r for r in found if not all(of_data(t, known) for t in r[2])]
+        more = {name for _, name, _ in found} - {name for _, name, _ in claiming} - known
+        if not more:
+            return claiming, known
+        known |= more
+
+
+def parameters(lines, k):
+    """The types of the parameters of the sections that line k stands in."""
+    depth = indent(lines[k])
+    for line in reversed(lines[:k]):
+        if line.strip() and indent(line) < depth:
+            depth = indent(line)
+            if re.match(r' *module ', line):
+                yield from re.findall(r'[({][^:(){}]* : ([^(){}]*(?:\([^()]*\)[^(){}]*)*)[)}]', line)
+
+
+def split_arrows(signature):
+    parts, depth, start = [], 0, 0
+    for i, c in enumerate(signature):
+        depth += (c in '({') - (c in ')}')
+        if c == '→' and depth == 0:
+            parts.append(signature[start:i].strip())
+            start = i + 1
+    return parts, signature[start:].strip()
+
+
+def proves(lines, name, known):
+    """Whether a `pub` declaration has the record for its type, and nothing but data as parameters."""
+    for k, is_pub, _, signature in declarations(lines):
+        premises, result = split_arrows(signature)
+        if is_pub and result.split()[:1] == [name]:
+            named = [re.fullmatch(r'(?:[({][^:(){}]* : (.*)[)}]\s*)+', p) for p in premises]
+            kinds = [t for p in premises for t in re.findall(r'[({][^:(){}]* : ((?:[^(){}]|\([^()]*\))*)[)}]', p)] + list(parameters(lines, k))
+            if all(named) and all(of_data(t, known) for t in kinds):
+                return True
+    return False
+
+
+def unproved_claims(root):
+    cited = ' '.join(re.sub(r'(?m)^ghost use [^;]*;', '', code_of(f)) for f in (root / 'crates').glob('*/src/**/*.rt'))
+    claiming, known = claims(root)
+    premises = ' '.join(t.rpartition('→')[0] for _, _, fields in claiming for t in fields)
+    for crate, name, _ in claiming:
+        word = re.compile(rf'(?<![^\s(⌜]){re.escape(name)}(?![^\s)⌝])')
+        proofs = (antt_of(f).split('\n') for f in sorted((root / 'crates' / crate / 'proofs').rglob('*.antt')))
+        # a promise is proved of the function whose contract cites it, and a premise claims nothing
+        if not word.search(cited) and not word.search(premises) and not any(proves(p, name, known) for p in proofs):
+            yield f'crates/{crate}: specs/ states {name}, and proofs/ has no pub declaration of that type over data alone'
+
+
+# ---- the rest
 
 
 def file_faults(root, crate):
     base = root / 'crates' / crate
     for f in sorted(base.rglob('*.antt')):
-        for n, x in enumerate(antt_of(f.read_text()).split('\n'), 1):
-            if re.search(r'(?<![^\s(,{;=])\?\w*(?=[\s),;}]|$)', x):
+        for n, x in enumerate(antt_of(f).split('\n'), 1):
+            if re.search(r'(?<![^\s(){}\[\],;=])\?\w*(?![^\s(){}\[\],;])', x):
                 yield f'{f.relative_to(root)}:{n}: a hole'
-    for f in sorted(base.glob('must-fail/*.edit')):
+    for f in sorted(base.rglob('*.edit')):
         head = (f.read_text().splitlines() + ['', ''])[:2]
-        if not re.match(r'# \w+ \w+', head[0]) or head[0].startswith('# refused: ') or not re.match(r'# refused: \S+ \S+ \S+', head[1]):
+        if f.parent != base / 'must-fail':
+            yield f'{f.relative_to(root)}: no edit that is tried stands here'
+        if not re.match(r'# \S+ \S+', head[0]) or head[0].startswith('# refused: ') or not re.match(r'# refused: \S+ \S+ \S+', head[1]):
             yield f'{f.relative_to(root)}: does not begin with its two comment lines'
 
 
@@ -154,12 +209,10 @@ def faults(root):
     yield from (f'crates.txt lists {c}, which is not there' for c in sorted(names - there))
     met = set()
     for c in sorted(there):
-        if not (root / 'crates' / c / 'src/main.rt').is_file():
+        if (root / 'crates' / c / 'src/lib.rt').is_file():
             yield from source_faults(root, c, met)
         yield from file_faults(root, c)
-    for x, n in listed(root).items():
-        if x.split('::')[0] + '::' + x.split('::')[-1] not in met:
-            yield f'docs/STATEMENTS.md:{n}: {x} is listed, and has no requires'
+    yield from (f'docs/STATEMENTS.md:{n}: {x} is listed, and has no requires' for x, n in listed(root).items() if x not in met)
     yield from unproved_claims(root)
     said = subprocess.run(['rt', 'fmt', '--check'], cwd=root, capture_output=True, text=True)
     if said.returncode:

@@ -30,18 +30,31 @@ PLANTED = [
     ({LIB: CLEAR.replace('(s .exit)', '(s .entry)')}, 'names s .exit'),
     ({LIB: CLEAR.replace("(s: &mut [u8])", "<'a>(s: &'a mut [u8])").replace('(s .exit)', '(s .entry)')}, 'names s .exit'),
     ({LIB: CLEAR.replace('s: &mut [u8]', '&mut self')}, 'names self .exit'),
+    ({LIB: "pub struct W<'a> {\n    out: &'a mut [u8],\n}\n\n" + CLEAR.replace('s: &mut [u8]', "w: W<'a>")}, 'names w .exit'),
+    ({LIB: CLEAR.replace('now (s .exit)', '0').replace(' }', ' -- (s .exit)\n    }')}, 'names s .exit'),
+    ({LIB: CLEAR.replace('now (s .exit)', '{- (s .exit) -} 0')}, 'names s .exit'),
+    ({LIB: 'pub fn f() -> u8 {\n    0\n}\n', 'crates/a/src/main.rt': 'fn main() {}\n'}, 'has no ensures'),
     ({LIB: PUT}, 'does not list'),
     ({LIB: PUT.replace('fn put(', 'fn f('), PAGE: '- `a::f` requires a place\n'}, 'is no part writer'),
+    ({LIB: f'impl A {{\n{PUT}}}\n\nimpl B {{\n{PUT}}}\n', PAGE: '- `a::A::put` requires room\n'}, 'pub fn B::put has a requires'),
     ({PAGE: '- `a::put_old` requires room\n'}, 'is listed, and has no requires'),
     ({PROOF: GOOD[PROOF] + 'returns c = ?\n'}, 'a hole'),
     ({PROOF: GOOD[PROOF] + 'returns c = (omega arith, ?)\n'}, 'a hole'),
+    ({PROOF: GOOD[PROOF] + 'returns = [?]\n'}, 'a hole'),
+    ({'crates/a/must-fail/more/y.edit': GOOD[EDIT]}, 'no edit that is tried stands here'),
     ({EDIT: '# a wrong program\nfile: src/lib.rt\n'}, 'two comment lines'),
     ({EDIT: GOOD[EDIT].replace('# refused: 0 is not 1 (returns)', '# refused: fact')}, 'two comment lines'),
     ({EDIT: GOOD[EDIT].replace('# a wrong program\n', '')}, 'two comment lines'),
     ({PROOF: '-- pub demand : Demand\n'}, 'specs/ states Demand'),
     ({PROOF: GOOD[PROOF].replace('pub demand', 'demand')}, 'specs/ states Demand'),
     ({PROOF: 'pub demand : ⊥ → Demand\ndemand ()\n'}, 'specs/ states Demand'),
+    ({PROOF: 'pub demand : (h : ⊥) → Demand\ndemand h = elim h [ ]\n'}, 'specs/ states Demand'),
+    ({PROOF: 'module _ (h : ⊥) where\n  pub demand : Demand\n  demand = elim h [ ]\n'}, 'specs/ states Demand'),
+    ({LIB: '// Demand\n' + CLEAR, PROOF: ''}, 'specs/ states Demand'),
     ({SPEC: GOOD[SPEC] + '\npub record All : Type 0 where\n  pub demand : Demand\n'}, 'specs/ states All'),
+    ({SPEC: GOOD[SPEC] + '\nrecord More : Type 0 where\n  one :\n      T allGood\n'}, 'specs/ states More'),
+    ({SPEC: 'module _ (n : ℕ) where\n  pub record Demand : Type 0 where\n    pub one : n ≡ n\n', PROOF: ''}, 'specs/ states Demand'),
+    ({'crates.txt': 'a:\nb:\n', 'crates/b/src/lib.rt': '// none\n', 'crates/b/specs/Lib.antt': THEOREM}, 'crates/b: specs/ states Demand'),
     ({LIB: CLEAR.replace('    0', '  0')}, 'rt fmt --check'),
 ]
 
@@ -55,7 +68,15 @@ def tried(tree):
 
 
 bad = [f'the tree without fault: {x}' for x in tried(GOOD)]
-bad += [f'the listed part writer: {x}' for x in tried({**GOOD, LIB: PUT, PAGE: '- `a::put` requires room for a byte\n'})]
+# Trees without fault: a listed part writer; theorems over data, in a section and on several lines; a promise; a premise; data in data.
+PASSES = [
+    {LIB: PUT, PAGE: '- `a::put` requires room for a byte\n'},
+    {PROOF: 'module _ (n : ℕ) (f : ℕ → Bool) where\n  pub demand :\n      {s : List ℕ} (g : ℕ → ℕ) → Demand\n  demand = it\n'},
+    {LIB: CLEAR.replace('⌜ now', '⌜ Demand × now'), PROOF: ''},
+    {SPEC: THEOREM.replace('n ≡ n', 'Small n → n ≡ n') + '\npub record Small\n    (n : ℕ)\n    : Type 0 where\n  pub small : n < 3\n'},
+    {SPEC: GOOD[SPEC] + '\npub record Pair : Type 0 where\n  pub first : Data\n  pub rest : List Data\n'},
+]
+bad += [f'tree {n} without fault: {x}' for n, tree in enumerate(PASSES, 1) for x in tried({**GOOD, **tree})]
 for change, word in PLANTED:
     said = tried({**GOOD, **change})
     if not any(word in x for x in said):

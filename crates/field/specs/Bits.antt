@@ -8,7 +8,7 @@ use lib.ListN.{getD, take, drop}
 abbrev pub byteAt : List ℕ → ℕ → ℕ
 byteAt s k = getD s k 0
 
--- bits hi to lo of a byte, as a number
+-- bits hi to lo of a byte, as a number: b / 2 ^ lo % 2 ^ (hi + 1 - lo), written so that it computes at lo = 0 too
 abbrev pub bits : ℕ → ℕ → ℕ → ℕ
 bits hi zero b = b % 2 ^ suc hi
 bits hi (suc lo) b = b / 2 ^ suc lo % 2 ^ (hi - lo)

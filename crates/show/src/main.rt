@@ -1,5 +1,5 @@
 // Answers the questions of oracle/questions.py, counting through them in their order, one answer a line:
-// `stdout` is what the Rust answered.
+// `stdout` is what the Rust answered (oracle/panics.txt has the three questions at which it panics).
 use connection::Channel;
 use connection::LogicalUnit;
 use connection::NewChannel;

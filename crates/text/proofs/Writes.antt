@@ -122,6 +122,10 @@ written text out left e p =
 pub one-answer : {text out left left′ : List ℕ} {r r′ : Written} → Wrote text out r left → Wrote text out r′ left′ → (r ≡ r′) × (left ≡ left′)
 one-answer p q = (p .answered ∙ sym (q .answered), p .leaves ∙ sym (q .leaves))
 
+pub one-part : {out left left′ : List ℕ} {at next next′ : ℕ} {text : List ℕ} → Put out left at next text → Put out left′ at next′ text
+    → (next ≡ next′) × (left ≡ left′)
+one-part p q = (p .ends ∙ sym (q .ends), p .holds ∙ sym (q .holds))
+
 -- what was put at the start of an output is its front
 pub front : {out d t : List ℕ} {n : ℕ} → Put out d 0 n t → take n d ≡ t
 unfolding placed

@@ -173,16 +173,23 @@ def proves(lines, name, known):
     return False
 
 
+def mentions(text, name):
+    return re.search(rf'(?<![^\s(⌜]){re.escape(name)}(?![^\s)⌝])', text)
+
+
 def unproved_claims(root):
-    cited = ' '.join(re.sub(r'(?m)^ghost use [^;]*;', '', code_of(f)) for f in (root / 'crates').glob('*/src/**/*.rt'))
     claiming, known = claims(root)
-    premises = ' '.join(t.rpartition('→')[0] for _, _, fields in claiming for t in fields)
-    for crate, name, _ in claiming:
-        word = re.compile(rf'(?<![^\s(⌜]){re.escape(name)}(?![^\s)⌝])')
-        proofs = (antt_of(f).split('\n') for f in sorted((root / 'crates' / crate / 'proofs').rglob('*.antt')))
-        # a promise is proved of the function whose contract cites it, and a premise claims nothing
-        if not word.search(cited) and not word.search(premises) and not any(proves(p, name, known) for p in proofs):
-            yield f'crates/{crate}: specs/ states {name}, and proofs/ has no pub declaration of that type over data alone'
+    # a promise is proved of each function whose contract cites it; a premise and a notion that a definition uses claim nothing
+    used = [re.sub(r'(?m)^ghost use [^;]*;', '', code_of(f)) for f in (root / 'crates').glob('*/src/**/*.rt')]
+    used += [t.rpartition('→')[0] for _, _, fields in claiming for t in fields]
+    used += [m.group(1) for f in (root / 'crates').glob('*/specs/**/*.antt') for m in re.finditer(r'(?m)^[^\s:]+(?: [^:\n]*)? =((?:.*\n?)(?: +.*\n?)*)', antt_of(f))]
+    proofs = {c: [antt_of(f).split('\n') for f in sorted((root / 'crates' / c / 'proofs').rglob('*.antt'))] for c, _, _ in claiming}
+    left = [r for r in claiming if not any(mentions(text, r[1]) for text in used)]
+    shown = [r for r in left if any(proves(p, r[1], known) for p in proofs[r[0]])]
+    for r in shown:  # what a proved record holds is proved with it
+        shown += [x for x in left if x not in shown and any(mentions(t, x[1]) for t in r[2])]
+    for crate, name, _ in (r for r in left if r not in shown):
+        yield f'crates/{crate}: specs/ states {name}, and proofs/ has no pub declaration of that type over data alone'
 
 
 # ---- the rest

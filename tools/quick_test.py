@@ -52,6 +52,7 @@ PLANTED = [
     ({PROOF: 'module _ (h : ⊥) where\n  pub demand : Demand\n  demand = elim h [ ]\n'}, 'specs/ states Demand'),
     ({LIB: '// Demand\n' + CLEAR, PROOF: ''}, 'specs/ states Demand'),
     ({SPEC: GOOD[SPEC] + '\npub record All : Type 0 where\n  pub demand : Demand\n'}, 'specs/ states All'),
+    ({SPEC: 'pub record Demand : Type 0 where\n  pub all : All\n\npub record All : Type 0 where\n  pub demand : Demand\n', PROOF: ''}, 'specs/ states All'),
     ({SPEC: GOOD[SPEC] + '\nrecord More : Type 0 where\n  one :\n      T allGood\n'}, 'specs/ states More'),
     ({SPEC: 'module _ (n : ℕ) where\n  pub record Demand : Type 0 where\n    pub one : n ≡ n\n', PROOF: ''}, 'specs/ states Demand'),
     ({'crates.txt': 'a:\nb:\n', 'crates/b/src/lib.rt': '// none\n', 'crates/b/specs/Lib.antt': THEOREM}, 'crates/b: specs/ states Demand'),
@@ -68,12 +69,15 @@ def tried(tree):
 
 
 bad = [f'the tree without fault: {x}' for x in tried(GOOD)]
-# Trees without fault: a listed part writer; theorems over data, in a section and on several lines; a promise; a premise; data in data.
+# Trees without fault: a listed part writer; theorems over data, in a section and on several lines; a promise; a premise; a notion that a
+# definition uses; a theorem inside a proved one; data in data.
 PASSES = [
     {LIB: PUT, PAGE: '- `a::put` requires room for a byte\n'},
     {PROOF: 'module _ (n : ℕ) (f : ℕ → Bool) where\n  pub demand :\n      {s : List ℕ} (g : ℕ → ℕ) → Demand\n  demand = it\n'},
     {LIB: CLEAR.replace('⌜ now', '⌜ Demand × now'), PROOF: ''},
     {SPEC: THEOREM.replace('n ≡ n', 'Small n → n ≡ n') + '\npub record Small\n    (n : ℕ)\n    : Type 0 where\n  pub small : n < 3\n'},
+    {SPEC: GOOD[SPEC] + '\npub record Small (n : ℕ) : Type 0 where\n  pub small : n < 3\n\nabbrev pub Within : ℕ → Type 0\nWithin n = (m : ℕ) × Small m\n'},
+    {SPEC: GOOD[SPEC] + '\npub record All : Type 0 where\n  pub demand : (n : ℕ) → n < 3 → Demand\n', PROOF: 'pub all : All\nall = it\n'},
     {SPEC: GOOD[SPEC] + '\npub record Pair : Type 0 where\n  pub first : Data\n  pub rest : List Data\n'},
 ]
 bad += [f'tree {n} without fault: {x}' for n, tree in enumerate(PASSES, 1) for x in tried({**GOOD, **tree})]

@@ -138,6 +138,10 @@ front-length {out} {d} {t} {n} p =
     let e : n ≡ length t = omega arith in
     e ∙ sym (ap length (front p))
 
+-- what was written of a text was written of its equal
+pub wrote-is : {text text′ out left : List ℕ} {r : Written} → text ≡ text′ → Wrote text out r left → Wrote text′ out r left
+wrote-is {out = out} {left} {r} e w = subst (λ (l : List ℕ). Wrote l out r left) e w
+
 -- a text that was put together in an array and then written is written
 pub by-array : {array d t : List ℕ} {n : ℕ} {out left : List ℕ} {r : Written} → Put array d 0 n t → Wrote (take n d) out r left → Wrote t out r left
-by-array {out = out} {left} {r} p w = subst (λ (l : List ℕ). Wrote l out r left) (front p) w
+by-array p w = wrote-is (front p) w

@@ -8,7 +8,7 @@ use borrow.Author.Tests.{eqb-true, eqb-false, leb-true, leb-false, le-leb, lt-le
 use Rattle.field.specs.Choose.{if_then_else_}
 use Rattle.field.specs.Bits.{bits}
 use Rattle.field.specs.Handed.{Answers}
-use Rattle.field.proofs.Choices.{float, answers}
+use Rattle.field.proofs.Choices.{float, settled, answers}
 use Rattle.connection.specs.Channel.{channelAt, channelOf, channelNumber, numberOf, channelHands}
 use Rattle.connection.specs.Unit.{unitNumber, unitAt, unitOf, unitNamed}
 use Rattle.connection.specs.Back.{ChannelBack, UnitBack}
@@ -16,11 +16,6 @@ use Rattle.connection.specs.declared.Channel.{Channel}
 use Rattle.connection.specs.declared.NewChannel.{NewChannel}
 use Rattle.connection.specs.declared.LogicalUnit.{LogicalUnit}
 use Rattle.connection.specs.declared.NewUnit.{NewUnit}
-
--- a choice of a number by equality with it is the number
-settled : (n k : ℕ) (b : Bool) → eqb n k ≡ b → (if b then k else n) ≡ n
-settled n k true e = sym (eqb-true n k e)
-settled n k false e = refl
 
 pub channel-number : (n : ℕ) → channelNumber (channelAt n) ≡ n
 unfolding channelAt

@@ -1,13 +1,21 @@
 -- A function of a choice is the choice of its values; an answer that is the definition's has the definition's number.
 -- Assumes nothing.
-use mathlib.Core.Path.{_≡_, refl, ap, _∙_}
+use Prim.Native.Nat.{ℕ}
+use mathlib.Core.Path.{_≡_, refl, sym, ap, _∙_}
 use mathlib.Core.Bool.{Bool, true, false}
+use lib.Dec.{eqb}
+use borrow.Author.Tests.{eqb-true}
 use Rattle.field.specs.Choose.{if_then_else_}
 use Rattle.field.specs.Handed.{Handed, Answers}
 
 pub float : {A B : Type 0} (f : A → B) (b : Bool) (x y : A) → f (if b then x else y) ≡ (if b then f x else f y)
 float f true x y = refl
 float f false x y = refl
+
+-- a choice of a number by equality with it is the number
+pub settled : (n k : ℕ) (b : Bool) → eqb n k ≡ b → (if b then k else n) ≡ n
+settled n k true e = sym (eqb-true n k e)
+settled n k false e = refl
 
 pub answers : {A : Type 0} {answer definition : A} (numberOf : A → Handed) {table : Handed} →
     answer ≡ definition → numberOf definition ≡ table → Answers answer definition numberOf table

@@ -1,7 +1,7 @@
 -- Bytes and bits of a message, as the standard counts them: bytes from 0, bit 0 the lowest, numbers of several bytes little-endian.
 -- Assumes nothing.
 use Prim.Native.Nat.{ℕ, zero, suc, _+_, _-_, _*_, _/_, _%_, _^_}
-use mathlib.Core.List.{List}
+use mathlib.Core.List.{List, [], _∷_}
 use lib.ListN.{getD, take, drop}
 
 -- byte k; past the end, 0
@@ -26,3 +26,8 @@ le24At s k = le16At s k + 65536 * byteAt s (k + 2)
 
 abbrev pub le32At : List ℕ → ℕ → ℕ
 le32At s k = le16At s k + 65536 * le16At s (k + 2)
+
+-- a number as k bytes, the lowest first
+abbrev pub leBytes : ℕ → ℕ → List ℕ
+leBytes zero n = []
+leBytes (suc k) n = n % 256 ∷ leBytes k (n / 256)

@@ -18,11 +18,19 @@ fn answer(question: &str) -> Option<String> {
     // A kind with a fixed number of bytes takes an array, and the conversion
     // to it turns away every other number.
     Some(match kind {
+        "e" => kinds::entry(&bytes),
+        "y" => kinds::entry_text(&bytes),
+        "g" => kinds::get_entry(&bytes),
+        "i" => kinds::info(&bytes),
         "a" => kinds::allocation(&bytes),
+        "r" => kinds::reserve(&bytes),
+        "c" => kinds::clear(&bytes),
         "d" => kinds::event_data(bytes.try_into().ok()?),
         "v" => kinds::event_data_text(bytes.try_into().ok()?),
         "x" => kinds::event_text(bytes.try_into().ok()?),
         "t" => kinds::time_text(bytes.try_into().ok()?),
+        "n" => kinds::record_id(bytes.try_into().ok()?),
+        "q" => kinds::request(&bytes)?,
         "channel" => kinds::channel(bytes.try_into().ok()?),
         "unit" => kinds::unit(bytes.try_into().ok()?),
         _ => return None,

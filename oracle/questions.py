@@ -1,8 +1,45 @@
-"""The questions put to the oracle, and the files that hold their answers."""
+"""The questions of the program `replay`, in the order of crates/replay/stdin.
+
+Their answers, crates/replay/stdout, come from three places: from model.py for the letter p, which the Rust does not
+have; from panics.txt where the Rust panics; from the Rust for every other line, those that answer `?` among them.
+"""
 
 
 def question(kind, data):
     return f"{kind} {bytes(data).hex().upper()}"
+
+
+def mixed(length):
+    return bytes((37 * i + 11 * length + 5) % 256 for i in range(length))
+
+
+def word(number):
+    return number.to_bytes(2, "little")
+
+
+def changed(data, place, value):
+    return data[:place] + bytes([value]) + data[place + 1:]
+
+
+RECORD = bytes.fromhex("010002E8030000200004013001595A55")
+BY_SOFTWARE = changed(RECORD, 7, 0x21)
+OEM_TIMED = bytes.fromhex("0200C1E8030000AB1280010203040506")
+OEM_PLAIN = bytes.fromhex("0300E20102030405060708090A0B0C0D")
+INFO = bytes.fromhex("510A00F03FE803000000020000") + b"\x8F"
+ALLOCATION = bytes.fromhex("000414008000600001")
+
+# A good answer of each kind, first the plain ones, then more.
+GOOD = {
+    "e": RECORD, "y": RECORD, "g": word(2) + RECORD, "p": word(2) + RECORD,
+    "i": INFO, "a": ALLOCATION, "r": word(0x1234), "c": b"\x01",
+}
+MORE = [("e", BY_SOFTWARE), ("e", OEM_TIMED), ("e", OEM_PLAIN), ("g", word(0xFFFF) + OEM_TIMED), ("g", word(0) + OEM_PLAIN)]
+
+# A log of eight entries as it was once read in one piece: eight Get SEL Entry answers end to end.
+EIGHT_ANSWERS = b"".join(word(k + 1 if k < 8 else 0xFFFF) + word(k) + RECORD[2:] for k in range(1, 9))
+
+EDGES = (0x00, 0x01, 0xFE, 0xFF)
+WORDS = (0x0000, 0x0001, 0x00FF, 0x0100, 0x7FFF, 0x8000, 0xFFFE, 0xFFFF)
 
 
 def channels_and_units():
@@ -29,13 +66,10 @@ def time_texts():
 def allocations():
     """Every length to well past the fields: mixed bytes, then all 00h, all FFh."""
     for length in range(301):
-        yield question("a", ((37 * i + 11 * length + 5) % 256 for i in range(length)))
+        yield question("a", mixed(length))
     for byte in (b"\x00", b"\xFF"):
         for length in range(301):
             yield question("a", byte * length)
-
-
-EDGES = (0x00, 0x01, 0xFE, 0xFF)
 
 
 def event_data():
@@ -60,6 +94,129 @@ def event_texts():
             yield question("x", [event, 0x0C, offset])
 
 
-FILES = {
-    "crates/show/stdout": [*channels_and_units(), *time_texts(), *allocations(), *event_data(), *event_texts()],
-}
+def lengths():
+    """Every length to well past the fields: mixed bytes, and a good answer continued by mixed bytes."""
+    for kind, good in GOOD.items():
+        for length in range(301):
+            if kind != "a":  # asked above
+                yield question(kind, mixed(length))
+            yield question(kind, (good + mixed(length))[:length])
+
+
+def eight_answers():
+    """The 144 bytes of a whole log, which no reader may take for one answer of that length."""
+    for kind in GOOD:
+        yield question(kind, EIGHT_ANSWERS)
+
+
+def every_value(kind, good, place):
+    """A good answer with every value of one byte."""
+    for value in range(256):
+        yield question(kind, changed(good, place, value))
+
+
+def fields():
+    """Record type; generator and revision; direction and event type; version and supported commands of an info; progress; reservation."""
+    for place in (2, 7, 8, 9, 12):
+        yield from every_value("e", RECORD, place)
+    yield from every_value("e", BY_SOFTWARE, 8)
+    for channel in range(16):
+        record = changed(RECORD, 8, channel << 4)
+        yield from (question("y", record), question("g", word(2) + record))
+    yield from every_value("i", INFO, 0)
+    yield from every_value("i", INFO, 13)
+    yield from every_value("c", b"\x00", 0)
+    for id in (*WORDS, 0x0002, 0x00FE, 0x0101):
+        yield question("r", word(id))
+
+
+def oem_records():
+    """The edges of the ranges of types, makers with high bits, and channel Ch where it is none."""
+    for record_type in (0xBF, 0xC0, 0xDF, 0xE0, 0xFF):
+        for maker in (0x000000, 0x000001, 0x00C000, 0x7FFFFF, 0x800000, 0xC0C0C0, 0xFFFFFF):
+            record = changed(OEM_TIMED[:7] + maker.to_bytes(3, "little") + OEM_TIMED[10:], 2, record_type)
+            yield from (question("e", record), question("y", record), question("g", word(3) + record))
+
+
+def damaged(kind, good):
+    """Each byte in turn 00h, FFh, and flipped in each bit; one byte lost, one too many; cut at every length."""
+    for place, byte in enumerate(good):
+        for value in (0x00, 0xFF, *(byte ^ 1 << bit for bit in range(8))):
+            yield question(kind, changed(good, place, value))
+        yield question(kind, good[:place] + good[place + 1:])
+        yield question(kind, good[:place] + b"\x5A" + good[place:])
+        yield question(kind, good[:place])
+    yield question(kind, good + b"\x5A")
+
+
+def damages():
+    for kind, good in [*GOOD.items(), *MORE]:
+        yield from damaged(kind, good)
+
+
+def texts_of_records():
+    """Generic event types, then sensor-specific ones, then two that have no text; asserted and deasserted."""
+    cases = [(event, 0x01) for event in range(0x01, 0x0D)]
+    cases += [(0x6F, sensor) for sensor in (0x01, 0x05, 0x08, 0x0C, 0x0D, 0x22, 0x23, 0x2C, 0xC0)]
+    cases += [(0x00, 0x0C), (0x7F, 0x0C)]
+    for event, sensor in cases:
+        for offset in range(16):
+            for high in (0x00, 0x80):
+                yield question("y", RECORD[:10] + bytes([sensor, 0x30, event | high, 0x50 | offset]) + RECORD[14:])
+
+
+def record_ids():
+    for id in WORDS:
+        yield question("n", word(id))
+
+
+def requests():
+    """Every command, with reservations and record ids at the edges; then what is no request."""
+    for command in range(256):
+        yield question("q", [command])
+    for reservation in WORDS:
+        for last in (0xAA, 0x00, 0xAB, 0x01, 0xFF):
+            yield question("q", b"\x47" + word(reservation) + bytes([last]))
+        for id in WORDS:
+            yield question("q", b"\x43" + word(reservation) + word(id))
+    for command in (0x3F, 0x40, 0x41, 0x42, 0x43, 0x44, 0x47):
+        for length in range(8):
+            yield question("q", bytes([command]) + b"\xAA" * length)
+
+
+LETTERS = "eygpiarcdvxtnq"
+FIXED = {"d": 3, "v": 3, "x": 3, "t": 4, "n": 2, "channel": 1, "unit": 1}
+
+
+def malformed():
+    """What answers `?`, as far as it stands in one line."""
+    yield ""
+    yield from (chr(c) for c in (0x00, 0x09, 0x0D, 0x20, 0x7F, 0xE9))
+    for kind in (*LETTERS, "channel", "unit"):
+        yield from (kind, kind + "00", kind.upper() + " 00", kind + kind + " 00", f" {kind} 00", f"{kind}  00", f"{kind}\t00", f"{kind}:00")
+        data = bytes([0xAB]) * FIXED.get(kind, 18)
+        good = question(kind, data)
+        yield from (good + "0", good.lower(), good + " ", good + "\r", good + "\0", good + " 00", good[:-1] + "G", good[:-1] + "/", good[:-1] + ":",
+                    good[:-1] + "@", good[:-1] + "`", good[:-1] + "\xE9", good.replace(" ", " 0x"))
+    for kind, count in FIXED.items():
+        yield from (question(kind, bytes(length)) for length in range(8) if length != count)
+    for c in range(0x21, 0x7F):
+        if chr(c) not in LETTERS:
+            yield chr(c) + " 00"
+    yield from ("chan 00", "channels 00", "units 00", "none", "?")
+
+
+def longest():
+    """The most digits that a question can have, and two more."""
+    yield question("a", mixed(60_100))
+    yield question("a", mixed(60_101))
+
+
+ASKED = [
+    *channels_and_units(), *time_texts(), *allocations(), *event_data(), *event_texts(),
+    *lengths(), *eight_answers(), *fields(), *oem_records(), *damages(), *texts_of_records(),
+    *record_ids(), *requests(), *malformed(), *longest(),
+]
+
+# The last line, which no newline closes.
+UNCLOSED = "t E8030000"

@@ -1,7 +1,7 @@
 """The questions of the program `replay`, in the order of crates/replay/stdin.
 
-Their answers, crates/replay/stdout, come from three places: from model.py for the letter p, which the Rust does not
-have; from panics.txt where the Rust panics; from the Rust for every other line, those that answer `?` among them.
+Their answers, crates/replay/stdout, come from three places: from model.py for the letters p and w, which the Rust does
+not have; from panics.txt where the Rust panics; from the Rust for every other line, those that answer `?` among them.
 """
 
 
@@ -184,7 +184,88 @@ def requests():
             yield question("q", bytes([command]) + b"\xAA" * length)
 
 
-LETTERS = "eygpiarcdvxtnq"
+LAST = 0xFFFF
+
+
+def slots(links):
+    """A slot for each (asked id, next id), with the same record in all: what it holds means nothing to a walk."""
+    return b"".join(word(ask) + word(following) + RECORD for ask, following in links)
+
+
+def walk(budget, places, capture):
+    return question("w", budget.to_bytes(4, "little") + word(places) + capture)
+
+
+def line_of(*ids):
+    """The links of a chain through the ids."""
+    return list(zip(ids, ids[1:]))
+
+
+SEVEN = line_of(0, 1, 2, 3, 4, 5, 6, LAST)
+EDGE_IDS = line_of(0, 0x00FF, 0xFF00, 0x0100, 0x8000, 0xFFFE, LAST)
+
+
+def shapes():
+    """The links of small captures."""
+    yield []
+    # in order, in reverse, shuffled; ids at the edges; and with slots that no link leads to
+    for chain in (line_of(0, LAST), line_of(0, 1, LAST), SEVEN, EDGE_IDS):
+        yield from (chain, chain[::-1])
+    yield [SEVEN[k] for k in (3, 6, 0, 5, 2, 1, 4)]
+    yield line_of(9, 8, 7) + line_of(0, 3, LAST) + [(12, 0)]
+    # circles: tails of several lengths before loops of several, alone and with slots beside them
+    for tail in (0, 1, 3):
+        for loop in (1, 2, 5):
+            circle = line_of(*range(tail + loop), tail)
+            yield from (circle, circle[::-1], [(20, 21)] + circle + [(22, LAST)])
+    yield line_of(0, 5, 6, 5) + [(k, LAST) for k in range(10, 14)]
+    # the first id is missing, then a later one
+    yield from ([(1, LAST)], [(LAST, LAST)], line_of(1, 2, LAST), [(0, 1)], line_of(0, 1, 2, 7), [(0, 256), (1, LAST)])
+    # an asked id twice: the second is never seen, be it the end, a circle or a way to other slots
+    yield from ([(0, LAST), (0, 0)], [(0, 0), (0, LAST)], [(0, 1), (0, 2), (1, LAST), (2, LAST)], [(0, 1), (1, 2), (1, LAST), (2, 0)],
+                [(0, 1), (1, LAST), (1, 0)], [(0, 1), (0, 1), (0, 1)])
+    # a slot with FFFFh as asked id is never looked up
+    yield from ([(LAST, 0), (0, LAST)], [(0, 1), (1, LAST), (LAST, 0)], [(0, LAST), (LAST, 1), (1, LAST)])
+
+
+def small_walks():
+    """Each shape with budgets around its length and the largest, and lists around its length."""
+    for links in shapes():
+        n = len(links)
+        for budget in sorted({b for b in (0, 1, n - 1, n, n + 1, n + 2, 2**32 - 1) if b >= 0}):
+            yield walk(budget, n, slots(links))
+        for budget in (0, n + 1):
+            yield walk(budget, n + 1, slots(links))
+            if n > 0:
+                yield walk(budget, n - 1, slots(links))
+
+
+def walk_edges():
+    """Lists of many places; slots of a bad length, with and without room; a question too short for its fields."""
+    for places in (2999, 3000, 3001, 3002, 3003, 0x7FFF, 0x8000, 0xFFFF):
+        yield walk(8, places, slots(SEVEN))
+        yield walk(8, places, slots(SEVEN) + b"\x00")
+    for length in (1, 2, 4, 10, 18, 19, 21, 22, 39, 40, 41, 140, 139, 141):
+        for places in (0, 1, 2, 3001, 3002):
+            if places < 10 or length != 40:
+                yield walk(3, places, slots(SEVEN + SEVEN)[:length])
+    for length in range(6):
+        yield question("w", mixed(length))
+    for bit in range(32):
+        yield walk(1 << bit, 7, slots(SEVEN))
+
+
+def long_walks():
+    """The most slots: an end, a circle, no room. Then one slot too many."""
+    ended = slots(line_of(*range(3000), LAST))
+    yield walk(3001, 3000, ended)
+    yield walk(3000, 2999, ended)
+    yield walk(2**32 - 1, 3001, slots([(0, 1), (1, 0)] + [(k, LAST) for k in range(2, 3000)]))
+    yield walk(2**32 - 1, 3001, slots(line_of(*range(3000), 3000)))
+    yield walk(3001, 3001, slots(line_of(*range(3001), LAST)))
+
+
+LETTERS = "eygpiarcdvxtnqw"
 FIXED = {"d": 3, "v": 3, "x": 3, "t": 4, "n": 2, "channel": 1, "unit": 1}
 
 
@@ -215,7 +296,7 @@ def longest():
 ASKED = [
     *channels_and_units(), *time_texts(), *allocations(), *event_data(), *event_texts(),
     *lengths(), *eight_answers(), *fields(), *oem_records(), *damages(), *texts_of_records(),
-    *record_ids(), *requests(), *malformed(), *longest(),
+    *record_ids(), *requests(), *small_walks(), *walk_edges(), *long_walks(), *malformed(), *longest(),
 ]
 
 # The last line, which no newline closes.

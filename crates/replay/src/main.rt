@@ -2,6 +2,7 @@
 mod entries;
 mod kinds;
 mod say;
+mod walks;
 
 use event_offset::Texts;
 use libc::STDIN_FILENO;
@@ -104,6 +105,7 @@ fn by_letter<'a>(letter: u8, data: &[u8], store: &'a [u8], starts: &'a [u16], le
         b't' => kinds::time_text(data),
         b'n' => kinds::record_id(data),
         b'q' => kinds::request(data),
+        b'w' => walks::walk(data),
         _ => say(b"?"),
     }
 }

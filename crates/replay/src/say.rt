@@ -21,6 +21,13 @@ pub(crate) fn say_hex(b: u8) {
     say(&digits);
 }
 
+// A number that a refusal carries.
+pub(crate) fn say_hex4(v: u16) {
+    let mut digits = [0u8; 4];
+    text::put_hex4(v, &mut digits, 0);
+    say(&digits);
+}
+
 // Numbers of the flat form, the low byte first.
 pub(crate) fn say_le16(v: u16) {
     say_hex((v % 256) as u8);

@@ -1,0 +1,56 @@
+// The kind w: a budget, a number of places lent, and the slots to walk over.
+use crate::say::say;
+use crate::say::say_hex;
+use crate::say::say_hex4;
+use crate::say::say_le16;
+use capture::Verdict;
+use field::le16_at;
+use field::le32_at;
+
+const MOST_PLACES: usize = 3001;
+
+fn say_places(list: &[u16]) {
+    let mut i = 0;
+    while i < list.len() {
+        say_le16(list[i]);
+        i += 1;
+    }
+}
+
+fn say_walk(verdict: u8, ask: u16, read: usize, list: &[u16]) {
+    say(b"0 ");
+    say_hex(verdict);
+    say_le16(ask);
+    say_le16((read % 65536) as u16);
+    say_places(list);
+}
+
+fn walk_into(slots: &[u8], budget: usize, list: &mut [u16]) {
+    match capture::walk(slots, budget, list) {
+        Verdict::Ended { read } => say_walk(0, 0, read, list),
+        Verdict::Missing { ask, read } => say_walk(1, ask.value(), read, list),
+        Verdict::Spent { ask, read } => say_walk(2, ask.value(), read, list),
+        Verdict::Circle { read } => say_walk(3, 0, read, list),
+        Verdict::NoRoom(n) => {
+            say(b"4 ");
+            say_hex4((n % 65536) as u16);
+        }
+        Verdict::BadCapture => say(b"5"),
+    }
+}
+
+pub(crate) fn walk(data: &[u8]) {
+    if data.len() < 6 {
+        say(b"?");
+        return;
+    }
+    let budget = le32_at(data, 0) as usize;
+    let places = le16_at(data, 4) as usize;
+    if MOST_PLACES < places {
+        say(b"?");
+        return;
+    }
+    // What no walk lists, so that places that were touched show.
+    let mut list = [0xEEEEu16; MOST_PLACES];
+    walk_into(&data[6..], budget, &mut list[..places]);
+}

@@ -151,7 +151,9 @@ pub fn info(answer: &[u8]) -> String {
         SelCommand::Reserve => 2,
         SelCommand::GetAllocInfo => 1,
     };
-    let mask: u8 = info.supported_cmds.iter().map(bit).sum();
+    let bits: Vec<u8> = info.supported_cmds.iter().map(bit).collect();
+    assert!(bits.windows(2).all(|pair| pair[0] > pair[1]), "the commands are listed from the highest bit down");
+    let mask: u8 = bits.iter().sum();
     let mut flat = vec![info.version_maj, info.version_min];
     flat.extend(info.entries.to_le_bytes());
     flat.extend(info.bytes_free.to_le_bytes());

@@ -1,7 +1,8 @@
 """The questions of the program `replay`, in the order of crates/replay/stdin.
 
-Their answers, crates/replay/stdout, come from three places: from model.py for the letters p and w, which the Rust does
-not have; from panics.txt where the Rust panics; from the Rust for every other line, those that answer `?` among them.
+Their answers, crates/replay/stdout, come from three places: from model.py for lines that begin with p or w, which the Rust
+does not have; from panics.txt where the Rust panics; from the Rust for every other line. That a line is no question, `?`, is
+said by the program that asks the Rust (src/main.rs), or by model.py.
 """
 
 
@@ -187,9 +188,13 @@ def requests():
 LAST = 0xFFFF
 
 
+# What a record holds means nothing to a walk: a good one, two with its id, an unknown type, an invalid channel, none at all.
+RECORDS = (RECORD, RECORD, changed(RECORD, 2, 0x03), changed(RECORD, 8, 0xC0), OEM_PLAIN, bytes(16))
+
+
 def slots(links):
-    """A slot for each (asked id, next id), with the same record in all: what it holds means nothing to a walk."""
-    return b"".join(word(ask) + word(following) + RECORD for ask, following in links)
+    """A slot for each (asked id, next id)."""
+    return b"".join(word(ask) + word(following) + RECORDS[k % len(RECORDS)] for k, (ask, following) in enumerate(links))
 
 
 def walk(budget, places, capture):
@@ -256,11 +261,13 @@ def walk_edges():
 
 
 def long_walks():
-    """The most slots: an end, a circle, no room. Then one slot too many."""
-    ended = slots(line_of(*range(3000), LAST))
-    yield walk(3001, 3000, ended)
-    yield walk(3000, 2999, ended)
+    """The most slots: an end, in order and in reverse, no room, a small circle and one of all slots, a miss. Then one slot too many."""
+    chain = line_of(*range(3000), LAST)
+    yield walk(3001, 3000, slots(chain))
+    yield walk(3000, 3000, slots(chain[::-1]))
+    yield walk(3000, 2999, slots(chain))
     yield walk(2**32 - 1, 3001, slots([(0, 1), (1, 0)] + [(k, LAST) for k in range(2, 3000)]))
+    yield walk(3001, 3000, slots(line_of(*range(3000), 0)))
     yield walk(2**32 - 1, 3001, slots(line_of(*range(3000), 3000)))
     yield walk(3001, 3001, slots(line_of(*range(3001), LAST)))
 

@@ -20,3 +20,8 @@ settled n k false e = refl
 pub answers : {A : Type 0} {answer definition : A} (numberOf : A → Handed) {table : Handed} →
     answer ≡ definition → numberOf definition ≡ table → Answers answer definition numberOf table
 answers numberOf e n = record { decoded = e; numbered = ap numberOf e ∙ n }
+
+-- any two answers are equal
+pub one-answer : {A : Type 0} {answer answer′ definition : A} {numberOf : A → Handed} {table : Handed} →
+    Answers answer definition numberOf table → Answers answer′ definition numberOf table → answer ≡ answer′
+one-answer p q = p .decoded ∙ sym (q .decoded)

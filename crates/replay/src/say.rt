@@ -21,8 +21,7 @@ pub(crate) fn say_hex(b: u8) {
     say(&digits);
 }
 
-// A number that a refusal carries.
-pub(crate) fn say_hex4(v: u16) {
+fn say_hex4(v: u16) {
     let mut digits = [0u8; 4];
     text::put_hex4(v, &mut digits, 0);
     say(&digits);
@@ -71,6 +70,12 @@ fn number_in(s: &[u8]) -> u32 {
     (number % 4294967296) as u32
 }
 
+// Number 4, with the length needed.
+pub(crate) fn say_no_room(n: usize) {
+    say(b"4 ");
+    say_hex4((n % 65536) as u16);
+}
+
 // The answer of a writer of a text, which stands at the start of out.
 pub(crate) fn say_text(w: Written, out: &[u8]) {
     match w {
@@ -81,7 +86,7 @@ pub(crate) fn say_text(w: Written, out: &[u8]) {
             }
             say(up_to(out, n));
         }
-        Written::NoRoom(_) => say(b"4"),
+        Written::NoRoom(n) => say_no_room(n),
     }
 }
 
@@ -95,6 +100,6 @@ pub(crate) fn say_payload(w: Written, out: &[u8]) {
             }
             say_first(out, n);
         }
-        Written::NoRoom(_) => say(b"4"),
+        Written::NoRoom(n) => say_no_room(n),
     }
 }

@@ -1,8 +1,8 @@
 // The kind w: a budget, a number of places lent, and the slots to walk over.
 use crate::say::say;
 use crate::say::say_hex;
-use crate::say::say_hex4;
 use crate::say::say_le16;
+use crate::say::say_no_room;
 use capture::Verdict;
 use field::le16_at;
 use field::le32_at;
@@ -31,10 +31,7 @@ fn walk_into(slots: &[u8], budget: usize, list: &mut [u16]) {
         Verdict::Missing { ask, read } => say_walk(1, ask.value(), read, list),
         Verdict::Spent { ask, read } => say_walk(2, ask.value(), read, list),
         Verdict::Circle { read } => say_walk(3, 0, read, list),
-        Verdict::NoRoom(n) => {
-            say(b"4 ");
-            say_hex4((n % 65536) as u16);
-        }
+        Verdict::NoRoom(n) => say_no_room(n),
         Verdict::BadCapture => say(b"5"),
     }
 }

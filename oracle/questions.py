@@ -188,7 +188,7 @@ def requests():
 LAST = 0xFFFF
 
 
-# What a record holds means nothing to a walk: a good one, two with its id, an unknown type, an invalid channel, none at all.
+# What a record holds means nothing to a walk: one record twice, an unknown type, an invalid channel, an OEM record, zeros.
 RECORDS = (RECORD, RECORD, changed(RECORD, 2, 0x03), changed(RECORD, 8, 0xC0), OEM_PLAIN, bytes(16))
 
 

@@ -1,4 +1,4 @@
--- A function of a choice is the choice of its values; an answer that is the definition's has the definition's number.
+-- Laws of choices; and an answer that is the definition's has the definition's number.
 -- Assumes nothing.
 use Prim.Native.Nat.{ℕ}
 use mathlib.Core.Path.{_≡_, refl, sym, ap, _∙_}
@@ -8,6 +8,7 @@ use borrow.Author.Tests.{eqb-true}
 use Rattle.field.specs.Choose.{if_then_else_}
 use Rattle.field.specs.Handed.{Handed, Answers}
 
+-- a function of a choice is the choice of its values
 pub float : {A B : Type 0} (f : A → B) (b : Bool) (x y : A) → f (if b then x else y) ≡ (if b then f x else f y)
 float f true x y = refl
 float f false x y = refl

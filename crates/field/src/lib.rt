@@ -1,9 +1,20 @@
 // Bytes and little-endian numbers at a place of a slice. Each reader is total: a byte past the end is 0.
 ghost use mathlib.Core.Path.{_≡_};
+ghost use lib.ListN.{getD};
 ghost use Rattle.field.specs.Bits.{byteAt, le16At, le24At, le32At};
 
 pub fn byte_at(s: &[u8], at: usize) -> u8
     ensures { λ r. ⌜ r ≡ byteAt (now (s .entry)) at ⌝ }
+{
+    if at < s.len() {
+        return s[at];
+    }
+    0
+}
+
+// The same of numbers of 16 bits.
+pub fn number_at(s: &[u16], at: usize) -> u16
+    ensures { λ r. ⌜ r ≡ getD (now (s .entry)) at 0 ⌝ }
 {
     if at < s.len() {
         return s[at];

@@ -65,3 +65,18 @@ decimal-large n f h =
 pub decimal-length : (k n : ℕ) → n < 10 ^ suc k → length (decimal n) ≤ suc k
 unfolding decimal
 decimal-length k n h = bound 20 k n h
+
+-- no number has more digits than there is room for
+within : (k n : ℕ) → length (decimalIn k n) ≤ k
+unfolding decimalIn
+within zero n = omega arith
+within (suc k) n = by (ltb n 10) (within k (n / 10))
+  where
+    by : (b : Bool) → length (decimalIn k (n / 10)) ≤ k
+        → length (if b then digitOf n ∷ [] else decimalIn k (n / 10) ++ (digitOf (n % 10) ∷ [])) ≤ suc k
+    by true r = omega arith
+    by false r = omega (arith, length-append (decimalIn k (n / 10)) (digitOf (n % 10) ∷ []))
+
+pub decimal-short : (n : ℕ) → length (decimal n) ≤ 20
+unfolding decimal
+decimal-short n = within 20 n

@@ -23,3 +23,8 @@ decimal n = decimalIn 20 n
 abbrev pub hex : ℕ → ℕ → List ℕ
 hex zero n = []
 hex (suc k) n = hex k (n / 16) ++ (digitOf (n % 16) ∷ [])
+
+-- bytes in hexadecimal, two digits each
+abbrev pub hexBytes : List ℕ → List ℕ
+hexBytes [] = []
+hexBytes (b ∷ bs) = hex 2 b ++ hexBytes bs

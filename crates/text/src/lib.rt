@@ -1,10 +1,10 @@
 // Texts in a lent output: part after part at a place that moves on, and a whole text, or a refusal.
 // The part writers, `put` and `put_..`, stand in for `fmt::Formatter`: only proved code can call them, since they require room.
 ghost use mathlib.Core.Path.{_≡_};
-ghost use mathlib.Core.List.{[], _∷_};
-ghost use Prim.Native.Nat.{_<_, _+_, _≤_};
+ghost use mathlib.Core.List.{[], _∷_, _++_};
+ghost use Prim.Native.Nat.{_<_, _+_, _*_, _≤_};
 ghost use lib.ListN.{length};
-ghost use Rattle.text.specs.Numbers.{decimal, digitOf, hex};
+ghost use Rattle.text.specs.Numbers.{decimal, digitOf, hex, hexBytes};
 ghost use Rattle.text.specs.Text.{Put};
 ghost use Rattle.text.specs.Written.{Wrote};
 
@@ -56,6 +56,15 @@ pub fn put_decimal(n: u32, out: &mut [u8], at: usize) -> usize
     put_byte(last, out, next)
 }
 
+// Puts a name and then a number in decimal.
+pub fn put_number(name: &[u8], number: u32, out: &mut [u8], at: usize) -> usize
+    requires { ⌜ at + length (now name) + length (decimal number) ≤ length (now out) ⌝ }
+    ensures { λ r. ⌜ Put (now (out .entry)) (now (out .exit)) at r (now (name .entry) ++ decimal number) ⌝ }
+{
+    let next = put(name, out, at);
+    put_decimal(number, out, next)
+}
+
 // Puts the low four bits of a byte, a byte, or a number of 16 bits, in hexadecimal, in upper case.
 pub fn put_hex1(b: u8, out: &mut [u8], at: usize) -> usize
     requires { ⌜ at + 1 ≤ length (now out) ⌝ }
@@ -78,6 +87,37 @@ pub fn put_hex4(v: u16, out: &mut [u8], at: usize) -> usize
 {
     let next = put_hex2((v / 256) as u8, out, at);
     put_hex2((v % 256) as u8, out, next)
+}
+
+// Puts a name and then one hexadecimal digit, or two.
+pub fn put_named1(name: &[u8], value: u8, out: &mut [u8], at: usize) -> usize
+    requires { ⌜ at + length (now name) + 1 ≤ length (now out) ⌝ }
+    ensures { λ r. ⌜ Put (now (out .entry)) (now (out .exit)) at r (now (name .entry) ++ hex 1 value) ⌝ }
+{
+    let next = put(name, out, at);
+    put_hex1(value, out, next)
+}
+
+pub fn put_named2(name: &[u8], value: u8, out: &mut [u8], at: usize) -> usize
+    requires { ⌜ at + length (now name) + 2 ≤ length (now out) ⌝ }
+    ensures { λ r. ⌜ Put (now (out .entry)) (now (out .exit)) at r (now (name .entry) ++ hex 2 value) ⌝ }
+{
+    let next = put(name, out, at);
+    put_hex2(value, out, next)
+}
+
+// Puts bytes in hexadecimal, two digits each.
+pub fn put_hex_bytes(data: &[u8], out: &mut [u8], at: usize) -> usize
+    requires { ⌜ at + length (now «data») * 2 ≤ length (now out) ⌝ }
+    ensures { λ r. ⌜ Put (now (out .entry)) (now (out .exit)) at r (hexBytes (now («data» .entry))) ⌝ }
+{
+    let mut next = at;
+    let mut i = 0;
+    while i < data.len() {
+        next = put_hex2(data[i], out, next);
+        i += 1;
+    }
+    next
 }
 
 const DIGITS: [u8; 16] = *b"0123456789ABCDEF";

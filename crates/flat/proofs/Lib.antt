@@ -1,0 +1,2 @@
+mod Cases
+pub mod Rows

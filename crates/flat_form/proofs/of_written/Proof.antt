@@ -1,0 +1,15 @@
+-- `of_written` meets its contract. Assumes nothing.
+use mathlib.Core.Path.{sym, ap}
+use Rattle.flat_form.specs.Form.{fromWritten}
+use borrow.Author.Needs.{needs}
+use Rattle.flat_form.proofs.of_written.Statement.{statement}
+use Rattle.flat_form.proofs.of_written.Tie as tie
+
+returns : tie.Need-returns
+returns c = sym (ap fromWritten (c .before .w .given .1))
+
+returns-2 : tie.Need-returns-2
+returns-2 c = sym (ap fromWritten (c .before .w2 .given .1))
+
+pub of-written-spec : {M : Type 1} → statement M
+of-written-spec = tie.close (tie.spec (λ c. search needs) (λ c. search needs) returns returns-2)

@@ -1,10 +1,10 @@
 // Answers questions in the flat form: one a line of standard input, one line of answer each. `stdin` and `stdout` are made by oracle/make.
-mod entries;
-mod kinds;
+mod flats;
 mod say;
 mod walks;
+mod words;
 
-use event_offset::Texts;
+use flat::Kind;
 use libc::STDIN_FILENO;
 use say::say;
 use say::up_to;
@@ -14,7 +14,8 @@ const LINE: usize = 120203;
 
 const BYTES: usize = 60100;
 
-enum Kind {
+// What a line asks about: a letter's kind, or one of two words.
+enum Asked {
     Letter(u8),
     Channel,
     Unit,
@@ -89,140 +90,83 @@ fn from_place(line: &[u8], at: usize) -> &[u8] {
     &line[..0]
 }
 
-fn by_letter<'a>(letter: u8, data: &[u8], store: &'a [u8], starts: &'a [u16], lengths: &'a [u8]) {
+fn by_letter(letter: u8, data: &[u8]) {
     match letter {
-        b'e' => entries::entry(data),
-        b'y' => entries::entry_text(data),
-        b'g' => entries::get_entry(data),
-        b'p' => entries::record_part(data),
-        b'i' => kinds::info(data),
-        b'a' => kinds::allocation(data),
-        b'r' => kinds::reserve(data),
-        b'c' => kinds::clear(data),
-        b'd' => kinds::event_data(data),
-        b'v' => kinds::event_data_text(data),
-        b'x' => kinds::event_text(data, store, starts, lengths),
-        b't' => kinds::time_text(data),
-        b'n' => kinds::record_id(data),
-        b'q' => kinds::request(data),
+        b'e' => flats::in_bytes(Kind::Entry, data),
+        b'y' => flats::in_text(Kind::EntryText, data),
+        b'g' => flats::in_bytes(Kind::GetEntry, data),
+        b'p' => flats::in_bytes(Kind::RecordPart, data),
+        b'i' => flats::in_bytes(Kind::Info, data),
+        b'a' => flats::in_bytes(Kind::Allocation, data),
+        b'r' => flats::in_bytes(Kind::Reserve, data),
+        b'c' => flats::in_bytes(Kind::Clear, data),
+        b'd' => flats::in_bytes(Kind::EventData, data),
+        b'v' => flats::in_text(Kind::EventDataText, data),
+        b'x' => flats::in_text(Kind::EventText, data),
+        b't' => flats::in_text(Kind::TimeText, data),
+        b'n' => flats::in_bytes(Kind::RecordId, data),
+        b'q' => flats::in_bytes(Kind::Request, data),
         b'w' => walks::walk(data),
         _ => say(b"?"),
     }
 }
 
-fn by_kind<'a>(kind: Kind, data: &[u8], store: &'a [u8], starts: &'a [u16], lengths: &'a [u8]) {
-    match kind {
-        Kind::Letter(letter) => by_letter(letter, data, store, starts, lengths),
-        Kind::Channel => kinds::channel(data),
-        Kind::Unit => kinds::unit(data),
+fn by_asked(asked: Asked, data: &[u8]) {
+    match asked {
+        Asked::Letter(letter) => by_letter(letter, data),
+        Asked::Channel => words::channel(data),
+        Asked::Unit => words::unit(data),
     }
 }
 
-fn ask<'a>(
-    kind: Kind,
-    digits: &[u8],
-    bytes: &mut [u8],
-    store: &'a [u8],
-    starts: &'a [u16],
-    lengths: &'a [u8],
-) {
+fn ask(asked: Asked, digits: &[u8], bytes: &mut [u8]) {
     let n = digits.len() / 2;
     if !decode(digits, bytes) {
         say(b"?");
         return;
     }
-    by_kind(kind, up_to(bytes, n), store, starts, lengths);
+    by_asked(asked, up_to(bytes, n));
 }
 
-fn ask_line<'a>(
-    line: &[u8],
-    bytes: &mut [u8],
-    store: &'a [u8],
-    starts: &'a [u16],
-    lengths: &'a [u8],
-) {
+fn ask_line(line: &[u8], bytes: &mut [u8]) {
     if field::byte_at(line, 1) == b' ' {
         let letter = field::byte_at(line, 0);
-        ask(
-            Kind::Letter(letter),
-            from_place(line, 2),
-            bytes,
-            store,
-            starts,
-            lengths,
-        );
+        ask(Asked::Letter(letter), from_place(line, 2), bytes);
         return;
     }
     if starts_with(line, b"channel ") {
-        ask(
-            Kind::Channel,
-            from_place(line, 8),
-            bytes,
-            store,
-            starts,
-            lengths,
-        );
+        ask(Asked::Channel, from_place(line, 8), bytes);
         return;
     }
     if starts_with(line, b"unit ") {
-        ask(
-            Kind::Unit,
-            from_place(line, 5),
-            bytes,
-            store,
-            starts,
-            lengths,
-        );
+        ask(Asked::Unit, from_place(line, 5), bytes);
         return;
     }
     say(b"?");
 }
 
 // Takes one byte of the input: a newline has the line before it answered. Hands back how much of a line there is then.
-fn take<'a>(
-    c: u8,
-    line: &mut [u8],
-    filled: usize,
-    bytes: &mut [u8],
-    store: &'a [u8],
-    starts: &'a [u16],
-    lengths: &'a [u8],
-) -> usize {
+fn take(c: u8, line: &mut [u8], filled: usize, bytes: &mut [u8]) -> usize {
     if c != b'\n' {
         return put(line, filled, c);
     }
-    ask_line(up_to(line, filled), bytes, store, starts, lengths);
+    ask_line(up_to(line, filled), bytes);
     say(b"\n");
     0
 }
 
-fn take_all<'a>(
-    chunk: &[u8],
-    line: &mut [u8],
-    filled: usize,
-    bytes: &mut [u8],
-    store: &'a [u8],
-    starts: &'a [u16],
-    lengths: &'a [u8],
-) -> usize {
+fn take_all(chunk: &[u8], line: &mut [u8], filled: usize, bytes: &mut [u8]) -> usize {
     let mut filled = filled;
     let mut i = 0;
     while i < chunk.len() {
-        filled = take(chunk[i], line, filled, bytes, store, starts, lengths);
+        filled = take(chunk[i], line, filled, bytes);
         i += 1;
     }
     filled
 }
 
 // A line that the end of the input cuts off is no question, and neither is one at which reading fails.
-fn read_some<'a>(
-    line: &mut [u8],
-    filled: usize,
-    bytes: &mut [u8],
-    store: &'a [u8],
-    starts: &'a [u16],
-    lengths: &'a [u8],
-) -> Step {
+fn read_some(line: &mut [u8], filled: usize, bytes: &mut [u8]) -> Step {
     let mut chunk = io::large_buffer();
     let got = libc::read(STDIN_FILENO, &mut chunk);
     if got < 0 {
@@ -236,21 +180,15 @@ fn read_some<'a>(
         return Step::Done;
     }
     let n = io::count(got, &chunk);
-    Step::More(take_all(&chunk[..n], line, filled, bytes, store, starts, lengths))
+    Step::More(take_all(&chunk[..n], line, filled, bytes))
 }
 
 // Nothing says that the input ends, so the turns are counted down from a number that no run uses up.
-fn replay<'a>(
-    line: &mut [u8],
-    bytes: &mut [u8],
-    store: &'a [u8],
-    starts: &'a [u16],
-    lengths: &'a [u8],
-) {
+fn replay(line: &mut [u8], bytes: &mut [u8]) {
     let mut filled = 0;
     let mut turns = u64::MAX;
     while 0 < turns {
-        let Step::More(n) = read_some(line, filled, bytes, store, starts, lengths) else {
+        let Step::More(n) = read_some(line, filled, bytes) else {
             return;
         };
         filled = n;
@@ -259,8 +197,7 @@ fn replay<'a>(
 }
 
 fn main() {
-    let t = Texts::new();
     let mut line = [0u8; LINE];
     let mut bytes = [0u8; BYTES];
-    replay(&mut line, &mut bytes, &t.store, &t.starts, &t.lengths);
+    replay(&mut line, &mut bytes);
 }

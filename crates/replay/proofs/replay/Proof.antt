@@ -7,10 +7,10 @@ use Rattle.replay.proofs.replay.Statement.{statement}
 use Rattle.replay.proofs.replay.Tie as tie
 
 abbrev Inv-loop : tie.InvT-loop
-Inv-loop line₀ bytes₀ store starts lengths filled₀ turns₀ line bytes filled turns = (length line ≡ length line₀) × (length bytes ≡ length bytes₀)
+Inv-loop line₀ bytes₀ filled₀ turns₀ line bytes filled turns = (length line ≡ length line₀) × (length bytes ≡ length bytes₀)
 
 abbrev μ-loop : tie.MeasureT-loop
-μ-loop line₀ bytes₀ store starts lengths filled₀ turns₀ line bytes filled turns = turns
+μ-loop line₀ bytes₀ filled₀ turns₀ line bytes filled turns = turns
 
 pub replay-spec : {M : Type 1} → statement M
 replay-spec =

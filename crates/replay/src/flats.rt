@@ -1,0 +1,53 @@
+// The kinds that the crate `flat` answers: all but the walk.
+use crate::say::say;
+use crate::say::say_bytes;
+use crate::say::say_hex;
+use crate::say::say_no_room;
+use crate::say::up_to;
+use flat::Kind;
+use flat_form::FlatAnswer;
+
+// More than the longest flat form has, an event's text of 70 bytes.
+const ROOM: usize = 80;
+
+fn say_taken(flat: &[u8], text: bool) {
+    say(b"0");
+    if flat.len() == 0 {
+        return;
+    }
+    say(b" ");
+    if text {
+        say(flat);
+        return;
+    }
+    say_bytes(flat);
+}
+
+fn say_refusal(number: &[u8], value: u8) {
+    say(number);
+    say_hex(value);
+}
+
+fn say_answer(answer: FlatAnswer, out: &[u8], text: bool) {
+    match answer {
+        FlatAnswer::Length(n) => say_taken(up_to(out, n), text),
+        FlatAnswer::NotEnoughData => say(b"1"),
+        FlatAnswer::UnknownRecordType(t) => say_refusal(b"2 ", t),
+        FlatAnswer::InvalidChannel(n) => say_refusal(b"3 ", n),
+        FlatAnswer::NoRoom(n) => say_no_room(n),
+        FlatAnswer::NoQuestion => say(b"?"),
+    }
+}
+
+// Answers with the flat bytes in hexadecimal, or with the text as it is.
+pub(crate) fn in_bytes(kind: Kind, data: &[u8]) {
+    let mut out = [0u8; ROOM];
+    let answer = flat::flat(kind, data, &mut out);
+    say_answer(answer, &out, false);
+}
+
+pub(crate) fn in_text(kind: Kind, data: &[u8]) {
+    let mut out = [0u8; ROOM];
+    let answer = flat::flat(kind, data, &mut out);
+    say_answer(answer, &out, true);
+}

@@ -1,4 +1,4 @@
-"""Runs rt ci, says what its must-fail edits took before its last line, and exits as it did."""
+"""Runs rt ci and then the samples of seldump, says before rt's last line what the must-fail edits took and how many samples agree, and exits as rt did, or with 1 where a sample differs."""
 import re
 import subprocess
 import sys
@@ -14,6 +14,8 @@ for line in run.stdout:
     if took:
         seconds, edits = seconds + int(took.group(1)), edits + 1
 status = run.wait()
-print(f'must-fail: {edits} edits took {seconds} s in all (goal: under {MOST})')
+print(f'must-fail: {edits} edits took {seconds} s in all (goal: under {MOST})', flush=True)
+if status == 0 and subprocess.run([sys.executable, 'tools/samples.py']).returncode != 0:
+    sys.exit('check: seldump prints something else than it must')
 print(last, end='', flush=True)
 sys.exit(status)

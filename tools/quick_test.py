@@ -1,4 +1,5 @@
 """Each quick test fails on a planted fault, and a tree without fault passes."""
+import subprocess
 import sys
 import tempfile
 from pathlib import Path
@@ -85,5 +86,9 @@ for change, word in PLANTED:
     said = tried({**GOOD, **change})
     if not any(word in x for x in said):
         bad.append(f'planted, and not found: {word} (said: {said})')
+# The samples of seldump, on a command that prints what it reads, must differ.
+samples = subprocess.run([sys.executable, Path(__file__).with_name('samples.py'), 'cat'], capture_output=True, text=True)
+if samples.returncode != 1 or 'samples: CR LF: line 1 must be' not in samples.stdout:
+    bad.append(f'samples.py takes cat for seldump (status {samples.returncode})')
 print(*bad, sep='\n', end='\n' if bad else '')
 sys.exit(bool(bad))

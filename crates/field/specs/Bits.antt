@@ -1,12 +1,18 @@
 -- Bytes and bits of a message, as the standard counts them: bytes from 0, bit 0 the lowest, numbers of several bytes little-endian.
 -- Assumes nothing.
-use Prim.Native.Nat.{ℕ, zero, suc, _+_, _-_, _*_, _/_, _%_, _^_}
+use Prim.Native.Nat.{ℕ, zero, suc, _+_, _-_, _*_, _/_, _%_, _^_, _<_}
+use mathlib.Core.Path.{_≡_}
 use mathlib.Core.List.{List, [], _∷_}
-use lib.ListN.{getD, take, drop}
+use lib.ListN.{length, getD, take, drop}
 
 -- byte k; past the end, 0
 abbrev pub byteAt : List ℕ → ℕ → ℕ
 byteAt s k = getD s k 0
+
+-- n numbers that are bytes
+pub record Bytes (n : ℕ) (s : List ℕ) : Type 0 where
+  pub long : length s ≡ n
+  pub each : (k : ℕ) → byteAt s k < 256
 
 -- bits hi to lo of a byte, as a number: b / 2 ^ lo % 2 ^ (hi + 1 - lo), written so that it computes at lo = 0 too
 abbrev pub bits : ℕ → ℕ → ℕ → ℕ

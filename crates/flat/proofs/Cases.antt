@@ -24,7 +24,7 @@ use Rattle.flat_entry.specs.Records.{entryFlat, getEntryFlat, plainFlat, record
 use Rattle.flat_answers.specs.Answers.{allocationFlat, clearFlat, idFlat, infoFlat, recordIdFlat, reserveFlat}
 use Rattle.flat_texts.specs.Texts.{entryTextFlat, eventDataTextFlat, eventTextFlat, timeTextFlat}
 use Rattle.flat.specs.Kinds.{flatOf}
-use Rattle.flat_requests.specs.Requests.{bareFlat, clearRequestFlat, entryRequestFlat, requestFlat}
+use Rattle.flat_requests.specs.Requests.{clearOf, questionLength, requestFlat, requestOf}
 use Rattle.flat.specs.declared.Kind.{Kind}
 
 abbrev system : List ℕ
@@ -121,19 +121,19 @@ unfolding recordIdFlat idFlat
 record-id = refl
 
 reserve-request : flatOf Kind.Request (0x42 ∷ []) ≡ taken []
-unfolding requestFlat bareFlat
+unfolding requestFlat questionLength requestOf
 reserve-request = refl
 
 clear-request : flatOf Kind.Request (0x47 ∷ 0x34 ∷ 0x12 ∷ 0xAA ∷ []) ≡ taken (0x34 ∷ 0x12 ∷ 0x43 ∷ 0x4C ∷ 0x52 ∷ 0xAA ∷ [])
-unfolding requestFlat clearRequestFlat clearRequest
+unfolding requestFlat questionLength requestOf clearOf clearRequest
 clear-request = refl
 
 no-action : flatOf Kind.Request (0x47 ∷ 0x34 ∷ 0x12 ∷ 0xAB ∷ []) ≡ noQuestion
-unfolding requestFlat clearRequestFlat
+unfolding requestFlat questionLength requestOf clearOf
 no-action = refl
 
 entry-request : flatOf Kind.Request (0x43 ∷ 0x34 ∷ 0x12 ∷ 0x02 ∷ 0x01 ∷ []) ≡ taken (0x34 ∷ 0x12 ∷ 0x02 ∷ 0x01 ∷ 0x00 ∷ 0xFF ∷ [])
-unfolding requestFlat entryRequestFlat entryRequest
+unfolding requestFlat questionLength requestOf entryRequest
 entry-request = refl
 
 -- what is answered and left: with room, without it, refused, and asked nothing

@@ -1,12 +1,14 @@
--- Demand 1 as one statement about one function: every answer of any length, read as any kind, is refused by `flat` exactly where the table of
--- numbers refuses it (docs/SCOPE.md, "Numbers handed back"; `AnswerRows` of sel_commands says when that is), by that number and with what it carries,
--- and the output is as it was; else it is decoded. Assumes nothing.
-use Prim.Native.Nat.{ℕ, _≤_}
+-- The table of numbers (docs/SCOPE.md, "Numbers handed back") as one statement about one function: every answer of any length, read as any kind, is
+-- refused by `flat` exactly where the table refuses it, by that number and with what it carries; else its flat bytes are written, or 4 says how
+-- much room they need. Only what is written touches the output. Assumes nothing.
+use Prim.Native.Nat.{ℕ, _≤_, _<_}
 use mathlib.Core.Path.{_≡_}
-use mathlib.Core.List.{List}
-use lib.ListN.{length}
+use mathlib.Core.List.{List, [], _∷_, _++_}
+use mathlib.Core.Logic.{_↔_}
+use lib.ListN.{length, drop}
+use Rattle.field.specs.Handed.{handed}
 use Rattle.connection.specs.Channel.{validChannel}
-use Rattle.sel_commands.specs.Rows.{handsOf}
+use Rattle.sel_commands.specs.Rows.{Accepted, Invalid, NotEnough, Unknown, handsOf}
 use Rattle.sel_commands.specs.declared.length.AnswerKind.{AnswerKind}
 use Rattle.flat_form.specs.Form.{Gives, numberOf, taken}
 use Rattle.flat_form.specs.declared.FlatAnswer.{FlatAnswer}
@@ -23,7 +25,16 @@ kindOf AnswerKind.Reserve = Kind.Reserve
 kindOf AnswerKind.Clear = Kind.Clear
 
 pub record FlatRows (kind : AnswerKind) (s out left : List ℕ) (r : FlatAnswer) : Type 0 where
-  pub refused : Gives (flatOf (kindOf kind) s) out r left → (handsOf validChannel kind s .number ≡ 0 → ⊥)
-      → (numberOf r ≡ handsOf validChannel kind s) × (left ≡ out)
-  pub accepted : Gives (flatOf (kindOf kind) s) out r left → handsOf validChannel kind s .number ≡ 0
-      → (flat : List ℕ) × (flatOf (kindOf kind) s ≡ taken flat) × (length flat ≤ length out → numberOf r .number ≡ 0)
+  -- each number of a refusal exactly when its row says
+  pub one : Gives (flatOf (kindOf kind) s) out r left → (numberOf r .number ≡ 1) ↔ NotEnough kind s
+  pub two : Gives (flatOf (kindOf kind) s) out r left → (numberOf r .number ≡ 2) ↔ Unknown kind s
+  pub three : Gives (flatOf (kindOf kind) s) out r left → (numberOf r .number ≡ 3) ↔ Invalid validChannel kind s
+  -- with what the table has it carry
+  pub refused : Gives (flatOf (kindOf kind) s) out r left → (Accepted validChannel kind s → ⊥) → numberOf r ≡ handsOf validChannel kind s
+  -- any other answer is decoded: its flat bytes stand at the output's start and the rest is as it was; or there is no room for them
+  pub accepted : Gives (flatOf (kindOf kind) s) out r left → Accepted validChannel kind s
+      → (flat : List ℕ) × (flatOf (kindOf kind) s ≡ taken flat)
+      × (length flat ≤ length out → (numberOf r ≡ handed 0 (length flat ∷ [])) × (left ≡ flat ++ drop (length flat) out))
+      × (length out < length flat → numberOf r ≡ handed 4 (length flat ∷ []))
+  -- whatever number but 0 is given, the output is as it was
+  pub untouched : Gives (flatOf (kindOf kind) s) out r left → (numberOf r .number ≡ 0 → ⊥) → left ≡ out

@@ -1,7 +1,7 @@
 -- Laws of decimal texts. Assumes nothing.
 use mathlib.Core.Path.{_≡_, refl, _∙_, ap, sym}
 use mathlib.Core.Bool.{Bool, true, false}
-use mathlib.Core.List.{[], _∷_, _++_}
+use mathlib.Core.List.{[], _∷_, _++_, append-assoc}
 use Prim.Native.Nat.{ℕ, zero, suc, _*_, _/_, _%_, _^_, _<_, _≤_}
 use native.Mathlib.Omega.{arith}
 use native.Mathlib.Nat.{pow-suc}
@@ -9,7 +9,7 @@ use borrow.Author.Tests.{lt-ltb, le-ltb, ltb-true, ltb-false}
 use lib.Dec.{ltb}
 use lib.ListN.{length, length-append}
 use Rattle.field.specs.Choose.{if_then_else_}
-use Rattle.text.specs.Numbers.{digitOf, decimalIn, decimal}
+use Rattle.text.specs.Numbers.{digitOf, decimalIn, decimal, lastTwo}
 
 -- below 10, one digit; else, those of the tenth part and one digit
 small : (k n : ℕ) → n < 10 → decimalIn (suc k) n ≡ digitOf n ∷ []
@@ -61,6 +61,19 @@ unfolding decimal
 decimal-large n f h =
     let b : n / 10 < 10 ^ 19 = omega arith in
     large 19 n h ∙ ap (λ l. l ++ (digitOf (n % 10) ∷ [])) (room 18 (n / 10) b)
+
+-- two digits at once
+pub decimal-pair : (n : ℕ) → 10 ≤ n → n < 100 → decimal n ≡ lastTwo n
+decimal-pair n g l =
+    decimal-large n (omega arith) g ∙ ap (λ d. d ++ (digitOf (n % 10) ∷ [])) (decimal-small (n / 10) (omega arith))
+
+pub decimal-hundreds : (n : ℕ) → n < 2 ^ 64 → 100 ≤ n → decimal n ≡ decimal (n / 100) ++ lastTwo n
+decimal-hundreds n f h =
+    let e : n / 10 / 10 ≡ n / 100 = omega arith in
+    decimal-large n f (omega arith)
+    ∙ ap (λ d. d ++ (digitOf (n % 10) ∷ [])) (decimal-large (n / 10) (omega arith) (omega arith))
+    ∙ append-assoc (decimal (n / 10 / 10)) (digitOf (n / 10 % 10) ∷ []) (digitOf (n % 10) ∷ [])
+    ∙ ap (λ q. decimal q ++ lastTwo n) e
 
 pub decimal-length : (k n : ℕ) → n < 10 ^ suc k → length (decimal n) ≤ suc k
 unfolding decimal

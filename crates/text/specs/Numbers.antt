@@ -19,6 +19,10 @@ decimalIn (suc k) n = if ltb n 10 then digitOf n ∷ [] else decimalIn k (n / 10
 unfoldable pub decimal : ℕ → List ℕ
 decimal n = decimalIn 20 n
 
+-- the last two decimal digits of a number
+abbrev pub lastTwo : ℕ → List ℕ
+lastTwo n = digitOf (n / 10 % 10) ∷ digitOf (n % 10) ∷ []
+
 -- the last k digits of a number in base 16, the highest first
 abbrev pub hex : ℕ → ℕ → List ℕ
 hex zero n = []

@@ -11,6 +11,10 @@ abbrev pub bytes : String → List ℕ
 bytes none = []
 bytes (c then s) = code c ∷ bytes s
 
+-- the places of old from the first on hold new, the rest are as before
+unfoldable pub over : List ℕ → List ℕ → List ℕ
+over new old = new ++ drop (length new) old
+
 -- the output with the text at the place `at`, and otherwise as it was
 unfoldable pub placed : List ℕ → ℕ → List ℕ → List ℕ
 placed out at text = take at out ++ text ++ drop (at + length text) out

@@ -4,7 +4,7 @@ ghost use mathlib.Core.Path.{_≡_};
 ghost use mathlib.Core.List.{[], _∷_, _++_};
 ghost use Prim.Native.Nat.{_<_, _+_, _*_, _≤_};
 ghost use lib.ListN.{length};
-ghost use Rattle.text.specs.Numbers.{decimal, digitOf, hex, hexBytes};
+ghost use Rattle.text.specs.Numbers.{decimal, digitOf, hex, hexBytes, lastTwo};
 ghost use Rattle.text.specs.Text.{Put};
 ghost use Rattle.text.specs.Written.{Wrote};
 
@@ -48,12 +48,23 @@ pub fn put_decimal(n: u32, out: &mut [u8], at: usize) -> usize
     requires { ⌜ at + length (decimal n) ≤ length (now out) ⌝ }
     ensures { λ r. ⌜ Put (now (out .entry)) (now (out .exit)) at r (decimal n) ⌝ }
 {
-    let last = digit((n % 10) as u8);
     if n < 10 {
-        return put_byte(last, out, at);
+        return put_byte(digit((n % 10) as u8), out, at);
     }
-    let next = put_decimal(n / 10, out, at);
-    put_byte(last, out, next)
+    if n < 100 {
+        return put_last_two(n, out, at);
+    }
+    let next = put_decimal(n / 100, out, at);
+    put_last_two(n, out, next)
+}
+
+// Puts the last two decimal digits of a number.
+fn put_last_two(n: u32, out: &mut [u8], at: usize) -> usize
+    requires { ⌜ at + 2 ≤ length (now out) ⌝ }
+    ensures { λ r. ⌜ Put (now (out .entry)) (now (out .exit)) at r (lastTwo n) ⌝ }
+{
+    let next = put_byte(digit((n / 10 % 10) as u8), out, at);
+    put_byte(digit((n % 10) as u8), out, next)
 }
 
 // Puts a name and then a number in decimal.

@@ -1,4 +1,4 @@
--- `text::put_decimal` meets its contract: below 10 one digit, else those of the tenth part and one more. The measure is the number. Assumes nothing.
+-- `text::put_decimal` meets its contract: one digit, or two, or those of the hundredth part and two more. The measure is the number. Assumes nothing.
 use Prim.Native.Nat.{ℕ, _<_}
 use mathlib.Core.Path.{ap}
 use native.Mathlib.Omega.{arith}
@@ -6,13 +6,14 @@ use borrow.Author.Needs.{needs}
 use borrow.Fn.Kinds.{In}
 use borrow.Fn.PlainCycle.{Measures, is, falls, and}
 use lib.ListN.{length, length-append}
-use Rattle.text.proofs.Decimal.{decimal-small, decimal-large}
+use Rattle.text.proofs.Decimal.{decimal-small, decimal-pair, decimal-hundreds}
 use Rattle.text.proofs.Writes.{_then_}
 use Rattle.text.proofs.put_decimal.Reads as put-decimal
 use Rattle.text.proofs.put_decimal.Kinds as put-decimal-kinds
 use Rattle.text.proofs.+put_decimal.Lts-put_decimal as put-decimal-lts
 use Rattle.text.proofs.digit.Reads as digit-reads
 use Rattle.text.proofs.put_byte.Reads as put-byte-reads
+use Rattle.text.proofs.put_last_two.Reads as put-last-two-reads
 use Rattle.text.proofs.+put_decimal.{statement}
 use Rattle.text.proofs.+put_decimal.Tie.{close}
 
@@ -32,6 +33,8 @@ pub +put-decimal-spec : {M : Type 1} → statement M
   digit-reads.Learnt,
   put-byte-reads.Asked,
   put-byte-reads.Learnt,
+  put-last-two-reads.Asked,
+  put-last-two-reads.Learnt,
   put-decimal-below t,
   put-decimal.Post,
 )
@@ -43,19 +46,24 @@ pub +put-decimal-spec : {M : Type 1} → statement M
     (λ c. search needs)
     (λ c.
     let n = c .before .before .before .before .before .before .before .args .n in
-    rw (decimal-small n (omega arith), ← c .before .before .before .before .before .digit .ensures)
+    rw (decimal-small n (omega arith), ← c .before .before .before .before .digit .ensures)
     (c .before .before .put-byte .ensures))
+    (λ c κs. omega (arith, ap length (decimal-pair (c .before .before .before .before .args .n) (omega arith) (omega arith))))
+    (λ c. search needs)
+    (λ c.
+    let n = c .before .before .before .before .before .before .before .args .n in
+    rw (decimal-pair n (omega arith) (omega arith)) (c .before .before .put-last-two .ensures))
     (λ c κs.
     let n = c .before .before .before .before .args .n in
-    let e = simp length-append at (ap length (decimal-large n (omega arith) (omega arith))) in
+    let e = simp length-append at (ap length (decimal-hundreds n (omega arith) (omega arith))) in
     (omega arith, omega arith))
     (λ c κs.
     let n = c .before .before .before .before .before .before .before .before .args .n in
-    let e = simp length-append at (ap length (decimal-large n (omega arith) (omega arith))) in
+    let e = simp length-append at (ap length (decimal-hundreds n (omega arith) (omega arith))) in
     omega arith)
     (λ c. search needs)
     (λ c.
-    let tested = c .before .before .before .before .before .before .before .before in
-    let n = tested .before .before .before .args .n in
-    rw (decimal-large n (omega arith) (omega arith), ← tested .before .digit .ensures)
-    (c .before .before .before .before .before .before .put-decimal .ensures then c .before .before .put-byte2 .ensures))
+    let hundreds = c .before .before .before .before .before .before in
+    let n = hundreds .before .before .before .before .before .args .n in
+    rw (decimal-hundreds n (omega arith) (omega arith))
+    (hundreds .put-decimal .ensures then c .before .before .put-last-two2 .ensures))

@@ -1,6 +1,5 @@
 -- Requests in the flat form (docs/SCOPE.md, "The flat form"): a command and its fields, to the payload. Assumes nothing.
 use Prim.Native.Nat.{ℕ}
-use mathlib.Core.Bool.{_&&_}
 use mathlib.Core.List.{List, []}
 use lib.Dec.{eqb}
 use lib.ListN.{length}
@@ -12,23 +11,29 @@ use Rattle.sel_commands.specs.Clear.{clearRequest}
 use Rattle.sel_commands.specs.declared.clear.ClearSelAction.{ClearSelAction}
 use Rattle.flat_form.specs.Form.{Flat, noQuestion, taken}
 
--- 40h, 41h and 42h, Get SEL Info, Get SEL Allocation Info and Reserve SEL: the command alone, and no payload
-unfoldable pub bareFlat : List ℕ → Flat
-bareFlat s = if eqb (length s) 1 && within 0x40 0x42 (byteAt s 0) then taken [] else noQuestion
-
--- 47h, Clear SEL: reservation, and AAh to erase or 00h for the status
-unfoldable pub clearRequestFlat : List ℕ → Flat
-clearRequestFlat s =
-    if eqb (length s) 4 && eqb (byteAt s 3) 0xAA then taken (clearRequest (reservationId (le16At s 1)) ClearSelAction.InitiateErase) else
-    if eqb (length s) 4 && eqb (byteAt s 3) 0x00 then taken (clearRequest (reservationId (le16At s 1)) ClearSelAction.GetStatus) else
+-- 47h, Clear SEL: AAh erases, 00h asks for the status
+unfoldable pub clearOf : ℕ → ℕ → Flat
+clearOf reservation argument =
+    if eqb argument 0x00AA then taken (clearRequest (reservationId reservation) ClearSelAction.InitiateErase) else
+    if eqb argument 0x0000 then taken (clearRequest (reservationId reservation) ClearSelAction.GetStatus) else
     noQuestion
 
--- 43h, Get SEL Entry: reservation, record id
-unfoldable pub entryRequestFlat : List ℕ → Flat
-entryRequestFlat s = if eqb (length s) 5 then taken (entryRequest (reservationId (le16At s 1)) (recordId (le16At s 3))) else noQuestion
+-- 40h, 41h and 42h, Get SEL Info, Get SEL Allocation Info and Reserve SEL, have no payload, whatever the fields; 43h, Get SEL Entry, asks for the
+-- record whose id the argument is
+unfoldable pub requestOf : ℕ → ℕ → ℕ → Flat
+requestOf command reservation argument =
+    if within 0x40 0x42 command then taken [] else
+    if eqb command 0x43 then taken (entryRequest (reservationId reservation) (recordId argument)) else
+    if eqb command 0x47 then clearOf reservation argument else
+    noQuestion
 
+-- how many bytes a question has: the command, and of 47h and 43h the reservation and the argument, which has one byte or two
+unfoldable pub questionLength : ℕ → ℕ
+questionLength command =
+    if eqb command 0x47 then 4 else
+    if eqb command 0x43 then 5 else
+    1
+
+-- a byte that is not there counts as 0
 unfoldable pub requestFlat : List ℕ → Flat
-requestFlat s =
-    if eqb (byteAt s 0) 0x47 then clearRequestFlat s else
-    if eqb (byteAt s 0) 0x43 then entryRequestFlat s else
-    bareFlat s
+requestFlat s = if eqb (length s) (questionLength (byteAt s 0)) then requestOf (byteAt s 0) (le16At s 1) (le16At s 3) else noQuestion

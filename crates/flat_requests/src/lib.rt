@@ -10,27 +10,36 @@ use sel_commands::clear::ClearSel;
 use sel_commands::get_alloc_info::GetAllocInfo;
 use sel_commands::get_info::GetInfo;
 use sel_commands::reserve::ReserveSel;
+ghost use mathlib.Core.Path.{_≡_};
 ghost use Rattle.flat_form.specs.Form.{Gives};
-ghost use Rattle.flat_requests.specs.Requests.{bareFlat, clearRequestFlat, entryRequestFlat, requestFlat};
+ghost use Rattle.flat_requests.specs.Requests.{clearOf, questionLength, requestFlat, requestOf};
 
+// A request as a question: the command, its reservation, and its argument, as many bytes of these as it has.
 pub fn request(data: &[u8], out: &mut [u8]) -> FlatAnswer
     ensures { λ r. ⌜ Gives (requestFlat (now («data» .entry))) (now (out .entry)) r (now (out .exit)) ⌝ }
 {
-    match byte_at(data, 0) {
-        0x47 => clear_request(data, out),
-        0x43 => entry_request(data, out),
-        _ => bare_request(data, out),
+    let command = byte_at(data, 0);
+    if data.len() != question_length(command) {
+        return FlatAnswer::NoQuestion;
+    }
+    requested(command, le16_at(data, 1), le16_at(data, 3), out)
+}
+
+fn question_length(command: u8) -> usize
+    ensures { λ r. ⌜ r ≡ questionLength command ⌝ }
+{
+    match command {
+        0x47 => 4,
+        0x43 => 5,
+        _ => 1,
     }
 }
 
-// The commands without a payload.
-fn bare_request(data: &[u8], out: &mut [u8]) -> FlatAnswer
-    ensures { λ r. ⌜ Gives (bareFlat (now («data» .entry))) (now (out .entry)) r (now (out .exit)) ⌝ }
+// The argument is the record's id, or what Clear SEL is to do; a command that has no payload does not look at it.
+pub fn requested(command: u8, reservation: u16, argument: u16, out: &mut [u8]) -> FlatAnswer
+    ensures { λ r. ⌜ Gives (requestOf command reservation argument) (now (out .entry)) r (now (out .exit)) ⌝ }
 {
-    if data.len() != 1 {
-        return FlatAnswer::NoQuestion;
-    }
-    match byte_at(data, 0) {
+    match command {
         0x40 => {
             let w = GetInfo::write_request(out);
             of_written(w)
@@ -43,40 +52,34 @@ fn bare_request(data: &[u8], out: &mut [u8]) -> FlatAnswer
             let w = ReserveSel::write_request(out);
             of_written(w)
         }
+        0x43 => {
+            let request = GetEntry::new(
+                ReservationId::new(reservation),
+                RecordId::new_raw(argument),
+            );
+            let w = request.write_request(out);
+            of_written(w)
+        }
+        0x47 => cleared(reservation, argument, out),
         _ => FlatAnswer::NoQuestion,
     }
 }
 
-fn clear_request(data: &[u8], out: &mut [u8]) -> FlatAnswer
-    ensures { λ r. ⌜ Gives (clearRequestFlat (now («data» .entry))) (now (out .entry)) r (now (out .exit)) ⌝ }
+fn cleared(reservation: u16, argument: u16, out: &mut [u8]) -> FlatAnswer
+    ensures { λ r. ⌜ Gives (clearOf reservation argument) (now (out .entry)) r (now (out .exit)) ⌝ }
 {
-    if data.len() != 4 {
-        return FlatAnswer::NoQuestion;
-    }
-    let reservation_id = ReservationId::new(le16_at(data, 1));
-    match byte_at(data, 3) {
-        0xAA => {
+    let reservation_id = ReservationId::new(reservation);
+    match argument {
+        0x00AA => {
             let request = ClearSel::initiate(reservation_id);
             let w = request.write_request(out);
             of_written(w)
         }
-        0x00 => {
+        0x0000 => {
             let request = ClearSel::get_status(reservation_id);
             let w = request.write_request(out);
             of_written(w)
         }
         _ => FlatAnswer::NoQuestion,
     }
-}
-
-fn entry_request(data: &[u8], out: &mut [u8]) -> FlatAnswer
-    ensures { λ r. ⌜ Gives (entryRequestFlat (now («data» .entry))) (now (out .entry)) r (now (out .exit)) ⌝ }
-{
-    if data.len() != 5 {
-        return FlatAnswer::NoQuestion;
-    }
-    let reservation_id = ReservationId::new(le16_at(data, 1));
-    let request = GetEntry::new(reservation_id, RecordId::new_raw(le16_at(data, 3)));
-    let w = request.write_request(out);
-    of_written(w)
 }

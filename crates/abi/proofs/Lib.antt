@@ -1,0 +1,4 @@
+pub mod Laws
+pub mod LengthSays
+pub mod Untouched
+pub mod Walking

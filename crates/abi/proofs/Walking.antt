@@ -1,0 +1,81 @@
+-- The walk and the search for a slot, in numbers: what they carry fits 32 bits. Assumes nothing.
+use Prim.Native.Nat.{ℕ, _≤_, _<_}
+use mathlib.Core.Path.{_≡_, refl, sym, ap, subst, _∙_}
+use mathlib.Core.List.{List}
+use mathlib.Core.Logic.{inr}
+use native.Mathlib.Decide.{decLe}
+use native.Mathlib.Omega.{arith}
+use borrow.Author.Tests.{le-ltb, lt-ltb}
+use lib.ListN.{length}
+use Rattle.ids.specs.Ids.{recordId}
+use Rattle.ids.specs.declared.RecordId.{RecordId}
+use Rattle.capture.specs.Listing.{readOf}
+use Rattle.capture.specs.Refusals.{Bad}
+use Rattle.capture.specs.Slots.{count, firstSlot}
+use Rattle.capture.specs.Walk.{verdict, walkOf}
+use Rattle.capture.specs.Walked.{Walked, numberOf}
+use Rattle.capture.specs.declared.Found.{Found}
+use Rattle.capture.specs.declared.Verdict.{Verdict}
+use Rattle.capture.proofs.Answer.{Answer, bad, short, goes, answer}
+use Rattle.capture.proofs.Listing.{counted, few}
+use Rattle.capture.proofs.Ran.{Ran, spends, rounds, ends, lacks, ran}
+use Rattle.abi.specs.Walks.{Walks, found, foundAnswer, walkAnswer, walkNumber}
+use Rattle.abi.specs.declared.walk.SelWalk.{SelWalk}
+
+-- what the search answers, of what it found
+pub found-is : (s : List ℕ) (id : ℕ) {x : RecordId} {f g : Found} → f ≡ firstSlot s (x .0) → x ≡ recordId id → f ≡ g → foundAnswer g ≡ foundAnswer (firstSlot s id)
+found-is s id p i e = ap foundAnswer (sym e ∙ p ∙ ap (λ (x : RecordId). firstSlot s (x .0)) i)
+
+same-number : (v : Verdict) → walkNumber (walkAnswer v) ≡ numberOf v
+same-number (Verdict.Ended read) = refl
+same-number (Verdict.Missing ask read) = refl
+same-number (Verdict.Spent ask read) = refl
+same-number (Verdict.Circle read) = refl
+same-number (Verdict.NoRoom n) = refl
+same-number Verdict.BadCapture = refl
+
+-- the count that an answer carries: of the slots read, or of the places needed
+abbrev pub countOf : Verdict → ℕ
+countOf (Verdict.Ended read) = read
+countOf (Verdict.Missing ask read) = read
+countOf (Verdict.Spent ask read) = read
+countOf (Verdict.Circle read) = read
+countOf (Verdict.NoRoom n) = n
+countOf Verdict.BadCapture = 0
+
+module _ (s : List ℕ) (b : ℕ) (old : List ℕ) where
+  -- a verdict counts what was read
+  counts : Ran s b → countOf (verdict s b) ≡ readOf (verdict s b)
+  counts (spends id h a v) = ap countOf v ∙ sym (ap readOf v)
+  counts (rounds h a v) = ap countOf v ∙ sym (ap readOf v)
+  counts (ends k h x v) = ap countOf v ∙ sym (ap readOf v)
+  counts (lacks k id h x v) = ap countOf v ∙ sym (ap readOf v)
+
+  slots-few : (Bad s → ⊥) → count s ≤ 3000
+  slots-few fine = by (decLe (length s) 60000)
+    where
+      by : Dec (length s ≤ 60000) → count s ≤ 3000
+      by (yes h) = omega arith
+      by (no h) = absurd (fine (inr (omega arith)))
+
+  count-few : countOf (walkOf s b (length old)) ≤ 3000
+  count-few = by (answer s b old)
+    where
+      by : Answer s b old → countOf (walkOf s b (length old)) ≤ 3000
+      by (bad why e l) = let z = ap countOf e in omega (arith, z)
+      by (short fine r e l) = let z = ap countOf e in omega (arith, z, slots-few fine)
+      by (goes fine r e l) =
+          let z = ap countOf e ∙ counts (ran s b) ∙ sym (counted s b (ran s b)) in
+          omega (arith, z, few s b, slots-few fine)
+
+  module _ {v : Verdict} {left : List ℕ} (p : Walked s b old v left) where
+    pub counted-few : {w : Verdict} → v ≡ w → countOf w ≤ 3000
+    counted-few e = subst (λ (x : Verdict). countOf x ≤ 3000) (sym (p .answered) ∙ e) count-few
+
+    pub walks : {r : SelWalk} → r ≡ walkAnswer v → Walks s b old r left
+    walks e =
+        record {
+          answered = e ∙ ap walkAnswer (p .answered);
+          numbered = ap walkNumber e ∙ same-number v ∙ p .numbered;
+          leaves = p .leaves;
+        }

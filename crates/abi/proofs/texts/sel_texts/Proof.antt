@@ -1,0 +1,20 @@
+-- `sel_texts` meets its contract. Assumes nothing.
+use Rattle.abi.proofs.Laws.{fills}
+use borrow.Author.Needs.{needs}
+use Rattle.abi.proofs.texts.sel_texts.Statement.{statement}
+use Rattle.abi.proofs.texts.sel_texts.Tie as tie
+
+returns : tie.Need-returns
+returns c = fills (c .answer-of .ensures) (c .before .of-written .ensures) (c .before .before .before .before .before .before .before .before .fill .ensures)
+
+pub sel-texts-spec : {M : Type 1} → statement M
+sel-texts-spec =
+    tie.close
+    (tie.spec
+    (λ c κs. search needs)
+    (λ c κs. search needs)
+    (λ c κs. search needs)
+    (λ c. search needs)
+    (λ c. search needs)
+    (λ c. search needs)
+    returns)

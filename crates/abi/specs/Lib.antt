@@ -1,0 +1,6 @@
+pub mod Filled
+pub mod LengthSays
+pub mod Questions
+pub mod Says
+pub mod Untouched
+pub mod Walks

@@ -1,0 +1,138 @@
+// The library for programs in other languages: numbers and lent slices in, numbers out. No function asks anything of its caller.
+mod connections;
+mod texts;
+mod walk;
+
+use flat_form::FlatAnswer;
+use sel_commands::length::AnswerKind;
+use sel_commands::length::LengthAnswer;
+ghost use mathlib.Core.Path.{_≡_};
+ghost use Rattle.sel_commands.specs.Length.{lengthHands};
+ghost use Rattle.flat_requests.specs.Requests.{requestOf};
+ghost use Rattle.flat.specs.Kinds.{flatOf};
+ghost use Rattle.flat.specs.declared.Kind.{Kind};
+ghost use Rattle.abi.specs.Questions.{lengthNumber, questionOf};
+ghost use Rattle.abi.specs.Says.{Says, answerOf};
+
+// A letter, command or number that there is none of.
+pub(crate) const NO_QUESTION: u32 = 255;
+
+// The number, what a refusal carries, and the length written, or needed.
+#[repr(C)]
+pub struct SelAnswer {
+    pub number: u32,
+    pub value: u32,
+    pub length: usize,
+}
+
+pub(crate) fn answer_of(answer: FlatAnswer) -> SelAnswer
+    ensures { λ r. ⌜ r ≡ answerOf answer ⌝ }
+{
+    match answer {
+        FlatAnswer::Length(length) => SelAnswer {
+            number: 0,
+            value: 0,
+            length,
+        },
+        FlatAnswer::NotEnoughData => SelAnswer {
+            number: 1,
+            value: 0,
+            length: 0,
+        },
+        FlatAnswer::UnknownRecordType(v) => SelAnswer {
+            number: 2,
+            value: v as u32,
+            length: 0,
+        },
+        FlatAnswer::InvalidChannel(n) => SelAnswer {
+            number: 3,
+            value: n as u32,
+            length: 0,
+        },
+        FlatAnswer::NoRoom(length) => SelAnswer {
+            number: 4,
+            value: 0,
+            length,
+        },
+        FlatAnswer::NoQuestion => SelAnswer {
+            number: NO_QUESTION,
+            value: 0,
+            length: 0,
+        },
+    }
+}
+
+// A record.
+#[no_mangle]
+pub extern "C" fn sel_entry(data: &[u8], out: &mut [u8]) -> SelAnswer
+    ensures { λ r. ⌜ Says (flatOf Kind.Entry (now («data» .entry))) (now (out .entry)) r (now (out .exit)) ⌝ }
+{
+    answer_of(direct::entry(data, out))
+}
+
+// The answer to Get SEL Entry.
+#[no_mangle]
+pub extern "C" fn sel_get_entry(data: &[u8], out: &mut [u8]) -> SelAnswer
+    ensures { λ r. ⌜ Says (flatOf Kind.GetEntry (now («data» .entry))) (now (out .entry)) r (now (out .exit)) ⌝ }
+{
+    answer_of(direct::get_entry(data, out))
+}
+
+// The answer to Get SEL Allocation Info.
+#[no_mangle]
+pub extern "C" fn sel_allocation(data: &[u8], out: &mut [u8]) -> SelAnswer
+    ensures { λ r. ⌜ Says (flatOf Kind.Allocation (now («data» .entry))) (now (out .entry)) r (now (out .exit)) ⌝ }
+{
+    answer_of(flat_answers::allocation(data, out))
+}
+
+// Any answer, text or request, by its kind's letter. The three above are there by name too, since the way by the letter is longer than the shortest of them.
+#[no_mangle]
+pub extern "C" fn sel_decode(kind: u8, data: &[u8], out: &mut [u8]) -> SelAnswer
+    ensures { λ r. ⌜ Says (questionOf kind (now («data» .entry))) (now (out .entry)) r (now (out .exit)) ⌝ }
+{
+    match kind {
+        b'e' => sel_entry(data, out),
+        b'g' => sel_get_entry(data, out),
+        b'a' => sel_allocation(data, out),
+        _ => answer_of(flat_letters::by_letter(kind, data, out)),
+    }
+}
+
+// What the length of an answer decides, before there is a byte of it.
+#[no_mangle]
+pub extern "C" fn sel_length(kind: u8, length: usize) -> u32
+    ensures { λ r. ⌜ r ≡ lengthNumber kind length ⌝ }
+{
+    match kind {
+        b'e' => length_number(AnswerKind::Entry, length),
+        b'g' => length_number(AnswerKind::GetEntry, length),
+        b'i' => length_number(AnswerKind::Info, length),
+        b'a' => length_number(AnswerKind::Allocation, length),
+        b'r' => length_number(AnswerKind::Reserve, length),
+        b'c' => length_number(AnswerKind::Clear, length),
+        _ => NO_QUESTION,
+    }
+}
+
+fn length_number(kind: AnswerKind, length: usize) -> u32
+    ensures { λ r. ⌜ r ≡ lengthHands kind length .number ⌝ }
+{
+    match sel_commands::length::length_answer(kind, length) {
+        LengthAnswer::MayBeRead => 0,
+        LengthAnswer::NotEnoughData => 1,
+    }
+}
+
+// The payload of a request. The argument is the record's id, or what Clear SEL is to do; a command that has no payload does not look at it.
+#[no_mangle]
+pub extern "C" fn sel_request(
+    command: u8,
+    reservation: u16,
+    argument: u16,
+    out: &mut [u8],
+) -> SelAnswer
+    ensures { λ r. ⌜ Says (requestOf command reservation argument) (now (out .entry)) r (now (out .exit)) ⌝ }
+{
+    answer_of(flat_requests::requested(command, reservation, argument, out))
+}

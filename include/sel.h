@@ -1,0 +1,145 @@
+/* The SEL library for C and C++: records and answers of the System Event Log, decoded or refused, never guessed.
+ *
+ * Each function is proved to keep the promise in its comment, for all arguments. A slice is a pointer and its number of elements. A caller can
+ * do nothing wrong but lend a bad pointer: the elements must be there, aligned, and for a slice that is written they may not lie in another slice
+ * of the same call. The pointer of an empty slice may be NULL (this is tested, not proved). Nothing lent is kept, nothing outside it is read or written, nothing is
+ * allocated, and every call ends.
+ *
+ * Numbers handed back (docs/SCOPE.md): 0 accepted, 1 not enough data, 2 unknown record type, 3 invalid channel, 4 no room, 5 bad capture;
+ * 255 no such letter, command or number, or not the bytes of one. Where the number is not 0, every lent slice is as it was. Where it is 0, what
+ * stands behind the bytes written is as it was. */
+#ifndef SEL_H
+#define SEL_H
+
+#include <stddef.h>
+#include <stdint.h>
+
+#ifdef __cplusplus
+extern "C" {
+#endif
+
+/* number: as above.
+ * value:  the record type where the number is 2, the channel where it is 3; of sel_channel and sel_unit the number asked, where that is accepted;
+ *         else 0.
+ * length: the bytes written where the number is 0, the length needed where it is 4; else 0. */
+typedef struct SelAnswer {
+    uint32_t number;
+    uint32_t value;
+    size_t length;
+} SelAnswer;
+
+/* A record of the log, 16 bytes or more; those behind the sixteenth are not looked at. Writes, numbers in little-endian order:
+ *   a system event (type 02h), 22 bytes: 00, id (2), time (4), 00 for an address or 01 for a software id, that, channel, unit (00 for a software
+ *     id), revision 00 for 2.0, 01 for 1.0, 02 for another, the revision's byte, sensor type, sensor number, 00 assert or 01 deassert, event
+ *     type, offset, then kind and value of event data bytes 2 and 3, both 00 where unspecified (also where the value is FFh);
+ *   OEM with a time (C0h to DFh), 18 bytes: 01, id (2), type, time (4), maker (4), six bytes;
+ *   OEM without (E0h to FFh), 17 bytes: 02, id (2), type, thirteen bytes.
+ * 1 under 16 bytes; 2 with the type for any other type; 3 with the channel for a system event on channel Ch or Dh; then 4. */
+SelAnswer sel_entry(const uint8_t *data, size_t data_length, uint8_t *out, size_t out_length);
+
+/* The answer to Get SEL Entry, without the completion code. Writes the next id (2), and then as sel_entry does of the bytes from the third on.
+ * 1 under 18 bytes; then as sel_entry; 4 needs two bytes more. */
+SelAnswer sel_get_entry(const uint8_t *data, size_t data_length, uint8_t *out, size_t out_length);
+
+/* The answer to Get SEL Allocation Info. Writes 9 bytes: units (2), unit size (2), free units (2), largest free block (2), maximum record size.
+ * 1 under 9 bytes; then 4. */
+SelAnswer sel_allocation(const uint8_t *data, size_t data_length, uint8_t *out, size_t out_length);
+
+/* Any kind of bytes, by its letter; 255 for any other letter.
+ *   e  a record: sel_entry
+ *   y  a record: the text of its event, empty for an OEM record; refused as by sel_entry
+ *   g  the answer to Get SEL Entry: sel_get_entry
+ *   p  the same answer: its sixteen record bytes; none under 18 bytes, which is accepted with length 0
+ *   i  the answer to Get SEL Info: major, minor, entries (2), free bytes (2), last add (4), last delete (4), overflow (0, 1), the mask of the
+ *      supported commands (8 Delete, 4 Partial Add, 2 Reserve, 1 Get Allocation Info), their count; 1 unless it has exactly 14 bytes
+ *   a  the answer to Get SEL Allocation Info: sel_allocation
+ *   r  the answer to Reserve SEL: reservation (2); 1 under 2 bytes, or where the reservation is 0
+ *   c  the answer to Clear SEL: 01 completed, 00 in progress; 1 where it is empty
+ *   d  three bytes of event data: offset, kind 2, value 2, kind 3, value 3; kinds 0 unspecified, 1 reading or threshold, 2 OEM, 3 sensor-specific
+ *   v  three bytes of event data: sel_data_text
+ *   x  event type, sensor type, offset: sel_event_text
+ *   t  a time (4): sel_time_text
+ *   n  a record id (2): 1 unless it is 0000h or FFFFh, which name no record; 1 for 0000h, which asks for the first; 1 for FFFFh, the last; the id (2)
+ *   q  a request: 40h, 41h or 42h; 47h, reservation (2), AAh or 00h; 43h, reservation (2), record id (2): sel_request
+ * 255 for another number of bytes than d, v, x, t, n and q have, and for a request that is none of these. Texts have at most 70 bytes, all
+ * others at most 24. */
+SelAnswer sel_decode(uint8_t kind, const uint8_t *data, size_t data_length, uint8_t *out, size_t out_length);
+
+/* What the length of an answer alone decides, before there is a byte of it: 1 exactly if sel_decode answers 1 for every answer of that length, which is
+ * under 16 for e, under 18 for g, any but 14 for i, under 9 for a, under 2 for r, and 0 for c; else 0. 255 for any other letter. */
+uint32_t sel_length(uint8_t kind, size_t length);
+
+/* Writes the text of an event, of at most 70 bytes, ASCII, without a NUL. Of the event type bit 7 does not count, of the offset bits 7 to 4.
+ * An event that has no text is accepted with length 0. 4 where out is shorter than the text. */
+SelAnswer sel_event_text(uint8_t event_type, uint8_t sensor_type, uint8_t offset, uint8_t *out, size_t out_length);
+
+/* What sel_texts fills: bytes, and places of each of its two tables. */
+#define SEL_STORE 6435
+#define SEL_PLACES 640
+
+/* Fills a store and its tables, which then hold every event's text. It is worth it where many texts are written.
+ * The length of an accepted answer is SEL_STORE. 4 with the length needed of the first slice that is too short; then none is written. */
+SelAnswer sel_texts(uint8_t *store, size_t store_length, uint16_t *starts, size_t starts_length, uint8_t *lengths, size_t lengths_length);
+
+/* Writes the text of an event out of a lent store. With the first SEL_STORE and SEL_PLACES elements of what sel_texts filled it does what
+ * sel_event_text does. Whatever else is lent: with p = 16 * class + offset it writes the bytes of the store from starts[p] on, lengths[p] of them,
+ * as far as they are there, where a place that is not there counts as 0. The classes are the rows of table 42-2, 0 to 11, and of table 42-3, 12 to 39;
+ * 40 is no class, and looks at the places from 640 on: so lend it no more places than sel_texts fills. */
+SelAnswer sel_event_text_from(const uint8_t *store, size_t store_length, const uint16_t *starts, size_t starts_length,
+                              const uint8_t *lengths, size_t lengths_length,
+                              uint8_t event_type, uint8_t sensor_type, uint8_t offset, uint8_t *out, size_t out_length);
+
+/* Writes the text of event data, bytes 13 to 15 of a system event, of at most 26 bytes, as `reading=90, threshold=85` or `oem2=0x17`; empty
+ * where neither byte is specified. 4 where out is shorter. */
+SelAnswer sel_data_text(uint8_t b1, uint8_t b2, uint8_t b3, uint8_t *out, size_t out_length);
+
+/* Writes a time, at most 10 bytes: `Unknown` for 0, else in decimal. 4 where out is shorter. */
+SelAnswer sel_time_text(uint32_t time, uint8_t *out, size_t out_length);
+
+/* Writes the payload of a request. A reservation of 0 is none.
+ *   40h Get SEL Info, 41h Get SEL Allocation Info, 42h Reserve SEL: length 0; reservation and argument are not looked at
+ *   43h Get SEL Entry: reservation (2), the argument as record id (2), 00h, FFh
+ *   47h Clear SEL: reservation (2), `CLR`, AAh; the argument is 00AAh to erase, or 0000h to ask for the status, and then the last byte is 00h
+ * 255 for any other command, and for any other argument of 47h; then 4. */
+SelAnswer sel_request(uint8_t command, uint16_t reservation, uint16_t argument, uint8_t *out, size_t out_length);
+
+/* 0 with the number as value for a valid channel, 0h to Bh, Eh and Fh; 3 with it for any other number. */
+SelAnswer sel_channel(uint8_t number);
+
+/* 0 with the number as value for a logical unit, 0 to 3; 255 for any other number. */
+SelAnswer sel_unit(uint8_t number);
+
+/* A capture is a number of slots, at most 3,000, of 20 bytes each: the id that was asked for (2), the next id (2), the record (16). */
+typedef struct SelFound {
+    size_t found;
+    size_t slot;
+} SelFound;
+
+/* 1 and the number, from 0, of the first whole slot that was asked for with the id; 0 and 0 where there is none. */
+SelFound sel_find(const uint8_t *slots, size_t slots_length, uint16_t id);
+
+/* number:  0, 4 or 5.
+ * verdict: 0 ended, 1 missing, 2 spent, 3 circle; 0 for a refusal.
+ * ask:     the id asked in vain (missing), or next to ask (spent); else 0.
+ * read:    the slots found, the closing one included; of a circle all slots; 0 for a refusal.
+ * needed:  the places that the list must have, where the number is 4; else 0. */
+typedef struct SelWalk {
+    uint32_t number;
+    uint32_t verdict;
+    uint32_t ask;
+    uint32_t read;
+    uint32_t needed;
+} SelWalk;
+
+/* Follows the chain of ids through a capture: asks for 0000h, and then for each next id at the first slot with it, until one names FFFFh (ended) or
+ * has no slot (missing), within a budget of lookups. If neither occurs: spent for a budget of at most the number of slots, else circle, and then the
+ * chain never ends and never misses, however far it is followed. So a budget of one more than there are slots always settles it.
+ * The first `read` places of the list hold the numbers of the slots, in the order found; the rest are as they were.
+ * 5 for slots that are no multiple of 20 bytes or over 60,000; then 4 for a list with fewer places than there are slots, whatever the budget. */
+SelWalk sel_walk(const uint8_t *slots, size_t slots_length, size_t budget, uint16_t *list, size_t list_length);
+
+#ifdef __cplusplus
+}
+#endif
+
+#endif

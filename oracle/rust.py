@@ -36,18 +36,26 @@ def parser(about):
     return parser
 
 
+def sources(original):
+    """The sources of the Rust and of its stand-ins: the bytes by the place that each file has beside the others."""
+    if not (original / "src/lib.rs").is_file():
+        stop(2, f"no src/lib.rs of the Rust under {original}")
+    files = {}
+    # The original comes after the stand-ins: they only fill its gaps.
+    for origin, place in ((HERE / "stand-ins", "."), (original / "src", "src")):
+        files |= under(origin, place)
+    return files
+
+
+def under(origin, place):
+    return {str(pathlib.Path(place) / path.relative_to(origin)): path.read_bytes() for path in origin.rglob("*.rs")}
+
+
 def build(original):
     """Lays all sources side by side and compiles them, if any has changed."""
     if not shutil.which("rustc"):
-        stop(2, "no rustc found; install Rust (Debian: apt-get install cargo)")
-    if not (original / "src/lib.rs").is_file():
-        stop(2, f"no src/lib.rs of the Rust under {original}")
-
-    files = {}
-    # The original comes after the stand-ins: they only fill its gaps.
-    for origin, place in ((HERE / "stand-ins", "."), (original / "src", "src"), (HERE / "src", "program")):
-        for path in origin.rglob("*.rs"):
-            files[BUILD / place / path.relative_to(origin)] = path.read_bytes()
+        stop(2, "no rustc found; install Rust 1.65 or later (Debian 12: apt-get install rustc-web cargo-web)")
+    files = {BUILD / place: content for place, content in (sources(original) | under(HERE / "src", "program")).items()}
 
     stamp = BUILD / "stamp"
     digest = hashlib.sha256(repr((sorted(files.items()), COMMANDS)).encode()).hexdigest()

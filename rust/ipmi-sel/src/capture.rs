@@ -1,0 +1,89 @@
+//! What ipmi-rs-core does not have: the walk along a captured log, the record's part of an answer, and what a length alone decides.
+//!
+//! A capture is slots of [`SLOT`] bytes: the asked id, the next id that was answered, and the record. At most 3,000 slots are walked.
+
+use crate::ffi;
+use crate::storage::sel::RecordId;
+
+/// The bytes of a slot.
+pub const SLOT: usize = 20;
+
+/// How the chain of ids goes on from 0000h.
+#[derive(Debug, Clone, Copy, PartialEq)]
+pub enum Verdict {
+    /// It comes to FFFFh.
+    Ended,
+    /// No slot has this id.
+    Missing(RecordId),
+    /// There were no more lookups, and this id is next.
+    Spent(RecordId),
+    /// It never ends.
+    Circle,
+}
+
+/// What was found: the first `read` places of the list are the numbers of the slots, in the chain's order.
+#[derive(Debug, Clone, Copy, PartialEq)]
+pub struct Walk {
+    pub verdict: Verdict,
+    pub read: usize,
+}
+
+/// Why there was no walk; the list is then as it was.
+#[derive(Debug, Clone, Copy, PartialEq)]
+pub enum WalkError {
+    /// The list has fewer places than there are slots, which are so many.
+    NoRoom(usize),
+    /// The bytes are not a multiple of [`SLOT`], or over 60,000.
+    BadCapture,
+}
+
+/// Follows the chain for at most `budget` lookups. One more than there are slots always tells how the chain goes on.
+pub fn walk(slots: &[u8], budget: usize, list: &mut [u16]) -> Result<Walk, WalkError> {
+    let answer = ffi::walk(slots, budget, list);
+    let id = RecordId::new_raw(answer.ask as u16);
+    let verdict = match (answer.number, answer.verdict) {
+        (0, 0) => Verdict::Ended,
+        (0, 1) => Verdict::Missing(id),
+        (0, 2) => Verdict::Spent(id),
+        (0, _) => Verdict::Circle,
+        (4, _) => return Err(WalkError::NoRoom(answer.needed as usize)),
+        _ => return Err(WalkError::BadCapture),
+    };
+    Ok(Walk { verdict, read: answer.read as usize })
+}
+
+/// The number of the first slot with an asked id, from 0.
+pub fn find(slots: &[u8], id: RecordId) -> Option<usize> {
+    let answer = ffi::find(slots, id.value());
+    (answer.found == 1).then_some(answer.slot)
+}
+
+/// The record's sixteen bytes in a get-entry answer; of an answer under 18 bytes an empty part.
+pub fn record_bytes(answer: &[u8]) -> &[u8] {
+    let part = ffi::decode(b'p', answer, &mut [0; 16]).length;
+    answer.get(2..2 + part).unwrap_or(&[])
+}
+
+/// What an answer is read as.
+#[derive(Debug, Clone, Copy, PartialEq)]
+pub enum AnswerKind {
+    Entry,
+    GetEntry,
+    Info,
+    Allocation,
+    Reserve,
+    Clear,
+}
+
+/// Whether every answer of this kind and length is refused as too short (an info answer also as too long), before there is a byte of it.
+pub fn refused_length(kind: AnswerKind, length: usize) -> bool {
+    let letter = match kind {
+        AnswerKind::Entry => b'e',
+        AnswerKind::GetEntry => b'g',
+        AnswerKind::Info => b'i',
+        AnswerKind::Allocation => b'a',
+        AnswerKind::Reserve => b'r',
+        AnswerKind::Clear => b'c',
+    };
+    ffi::length(letter, length) != 0
+}

@@ -1,0 +1,131 @@
+//! The library's functions, each behind a safe one. None of them asks anything of its input, and a slice is a pointer and a length: so a call
+//! is sound for any slices that Rust can lend.
+
+#[repr(C)]
+pub(crate) struct Answer {
+    pub number: u32,
+    pub value: u32,
+    pub length: usize,
+}
+
+#[repr(C)]
+pub(crate) struct Found {
+    pub found: usize,
+    pub slot: usize,
+}
+
+#[repr(C)]
+pub(crate) struct Walk {
+    pub number: u32,
+    pub verdict: u32,
+    pub ask: u32,
+    pub read: u32,
+    pub needed: u32,
+}
+
+mod library {
+    use super::{Answer, Found, Walk};
+
+    extern "C" {
+        pub fn sel_entry(data: *const u8, length: usize, out: *mut u8, room: usize) -> Answer;
+        pub fn sel_get_entry(data: *const u8, length: usize, out: *mut u8, room: usize) -> Answer;
+        pub fn sel_allocation(data: *const u8, length: usize, out: *mut u8, room: usize) -> Answer;
+        pub fn sel_decode(kind: u8, data: *const u8, length: usize, out: *mut u8, room: usize) -> Answer;
+        pub fn sel_length(kind: u8, length: usize) -> u32;
+        pub fn sel_texts(
+            store: *mut u8,
+            store_room: usize,
+            starts: *mut u16,
+            starts_room: usize,
+            lengths: *mut u8,
+            lengths_room: usize,
+        ) -> Answer;
+        pub fn sel_event_text_from(
+            store: *const u8,
+            store_length: usize,
+            starts: *const u16,
+            starts_length: usize,
+            lengths: *const u8,
+            lengths_length: usize,
+            event_type: u8,
+            sensor_type: u8,
+            offset: u8,
+            out: *mut u8,
+            room: usize,
+        ) -> Answer;
+        pub fn sel_data_text(b1: u8, b2: u8, b3: u8, out: *mut u8, room: usize) -> Answer;
+        pub fn sel_time_text(time: u32, out: *mut u8, room: usize) -> Answer;
+        pub fn sel_request(command: u8, reservation: u16, argument: u16, out: *mut u8, room: usize) -> Answer;
+        pub fn sel_channel(number: u8) -> Answer;
+        pub fn sel_unit(number: u8) -> Answer;
+        pub fn sel_find(slots: *const u8, length: usize, id: u16) -> Found;
+        pub fn sel_walk(slots: *const u8, length: usize, budget: usize, list: *mut u16, places: usize) -> Walk;
+    }
+}
+
+// SAFETY, of every call below: each pointer and length are those of a live slice, and what is lent mutably is lent to this call alone. The
+// library reads and writes inside the slices, and ends, whatever they hold: that is proved of each of its functions.
+
+pub(crate) fn entry(data: &[u8], out: &mut [u8]) -> Answer {
+    unsafe { library::sel_entry(data.as_ptr(), data.len(), out.as_mut_ptr(), out.len()) }
+}
+
+pub(crate) fn get_entry(data: &[u8], out: &mut [u8]) -> Answer {
+    unsafe { library::sel_get_entry(data.as_ptr(), data.len(), out.as_mut_ptr(), out.len()) }
+}
+
+pub(crate) fn allocation(data: &[u8], out: &mut [u8]) -> Answer {
+    unsafe { library::sel_allocation(data.as_ptr(), data.len(), out.as_mut_ptr(), out.len()) }
+}
+
+pub(crate) fn decode(kind: u8, data: &[u8], out: &mut [u8]) -> Answer {
+    unsafe { library::sel_decode(kind, data.as_ptr(), data.len(), out.as_mut_ptr(), out.len()) }
+}
+
+pub(crate) fn length(kind: u8, length: usize) -> u32 {
+    unsafe { library::sel_length(kind, length) }
+}
+
+pub(crate) fn texts(store: &mut [u8], starts: &mut [u16], lengths: &mut [u8]) -> Answer {
+    let (s, t, l) = (store.len(), starts.len(), lengths.len());
+    unsafe { library::sel_texts(store.as_mut_ptr(), s, starts.as_mut_ptr(), t, lengths.as_mut_ptr(), l) }
+}
+
+pub(crate) fn event_text_from(
+    (store, starts, lengths): (&[u8], &[u16], &[u8]),
+    [event_type, sensor_type, offset]: [u8; 3],
+    out: &mut [u8],
+) -> Answer {
+    let (s, t, l) = (store.len(), starts.len(), lengths.len());
+    let (store, starts, lengths) = (store.as_ptr(), starts.as_ptr(), lengths.as_ptr());
+    let (out, room) = (out.as_mut_ptr(), out.len());
+    unsafe { library::sel_event_text_from(store, s, starts, t, lengths, l, event_type, sensor_type, offset, out, room) }
+}
+
+pub(crate) fn data_text([b1, b2, b3]: [u8; 3], out: &mut [u8]) -> Answer {
+    unsafe { library::sel_data_text(b1, b2, b3, out.as_mut_ptr(), out.len()) }
+}
+
+pub(crate) fn time_text(time: u32, out: &mut [u8]) -> Answer {
+    unsafe { library::sel_time_text(time, out.as_mut_ptr(), out.len()) }
+}
+
+pub(crate) fn request(command: u8, reservation: u16, argument: u16, out: &mut [u8]) -> Answer {
+    unsafe { library::sel_request(command, reservation, argument, out.as_mut_ptr(), out.len()) }
+}
+
+pub(crate) fn channel(number: u8) -> Answer {
+    unsafe { library::sel_channel(number) }
+}
+
+pub(crate) fn unit(number: u8) -> Answer {
+    unsafe { library::sel_unit(number) }
+}
+
+pub(crate) fn find(slots: &[u8], id: u16) -> Found {
+    unsafe { library::sel_find(slots.as_ptr(), slots.len(), id) }
+}
+
+pub(crate) fn walk(slots: &[u8], budget: usize, list: &mut [u16]) -> Walk {
+    unsafe { library::sel_walk(slots.as_ptr(), slots.len(), budget, list.as_mut_ptr(), list.len()) }
+}

@@ -1,0 +1,60 @@
+//! What the library decodes, in its flat form: the fields one after another, numbers of several bytes from the lowest up.
+
+use crate::ffi::{self, Answer};
+
+/// The most bytes that a kind has: those of a get-entry answer.
+const MOST: usize = 24;
+
+/// The fields of an accepted answer that are still to be taken.
+pub(crate) struct Flat {
+    bytes: [u8; MOST],
+    taken: usize,
+}
+
+impl Flat {
+    /// Of the bytes that are read as a kind, by its letter; the refusal where there is one.
+    pub(crate) fn decode(kind: u8, data: &[u8]) -> Result<Self, Answer> {
+        let mut bytes = [0; MOST];
+        // These three have functions of their own, which are the shorter way.
+        let answer = match kind {
+            b'e' => ffi::entry(data, &mut bytes),
+            b'g' => ffi::get_entry(data, &mut bytes),
+            b'a' => ffi::allocation(data, &mut bytes),
+            _ => ffi::decode(kind, data, &mut bytes),
+        };
+        if answer.number == 0 {
+            Ok(Self { bytes, taken: 0 })
+        } else {
+            Err(answer)
+        }
+    }
+
+    #[inline]
+    pub(crate) fn bytes<const N: usize>(&mut self) -> [u8; N] {
+        let from = self.taken;
+        self.taken += N;
+        std::array::from_fn(|i| self.bytes.get(from + i).copied().unwrap_or(0))
+    }
+
+    #[inline]
+    pub(crate) fn byte(&mut self) -> u8 {
+        let [byte] = self.bytes();
+        byte
+    }
+
+    /// A byte that says yes or no.
+    #[inline]
+    pub(crate) fn yes(&mut self) -> bool {
+        self.byte() == 1
+    }
+
+    #[inline]
+    pub(crate) fn u16(&mut self) -> u16 {
+        u16::from_le_bytes(self.bytes())
+    }
+
+    #[inline]
+    pub(crate) fn u32(&mut self) -> u32 {
+        u32::from_le_bytes(self.bytes())
+    }
+}

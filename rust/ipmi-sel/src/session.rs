@@ -1,0 +1,58 @@
+//! The commands and numbers of this crate where ipmi-rs-core's own are wanted, so that its sessions take them.
+
+use std::num::NonZeroU16;
+
+use ipmi_rs_core::connection::{self, IpmiCommand, Message, NetFn, NotEnoughData};
+
+use crate::connection::{Channel, LogicalUnit};
+use crate::storage::sel::{
+    ClearSel, ErasureProgress, GetSelEntry, GetSelInfo, ParseEntryError, ReserveSel, SelAllocInfo, SelEntryInfo, SelGetAllocInfo, SelInfo,
+};
+
+macro_rules! commands {
+    ($($command:ident -> $output:ident, $error:ident;)*) => {$(
+        impl From<$command> for Message {
+            fn from(command: $command) -> Self {
+                let request = command.request();
+                Message::new_request(NetFn::Storage, request.command(), request.payload().to_vec())
+            }
+        }
+
+        impl IpmiCommand for $command {
+            type Output = $output;
+            type Error = $error;
+
+            fn parse_success_response(data: &[u8]) -> Result<Self::Output, Self::Error> {
+                // The command's own function, which goes before the trait's.
+                $command::parse_success_response(data)
+            }
+        }
+    )*};
+}
+
+commands! {
+    GetSelInfo -> SelInfo, NotEnoughData;
+    SelGetAllocInfo -> SelAllocInfo, NotEnoughData;
+    ReserveSel -> NonZeroU16, NotEnoughData;
+    GetSelEntry -> SelEntryInfo, ParseEntryError;
+    ClearSel -> ErasureProgress, NotEnoughData;
+}
+
+impl From<Channel> for connection::Channel {
+    fn from(channel: Channel) -> Self {
+        use connection::ChannelNumber;
+        match channel {
+            Channel::Primary => Self::Primary,
+            // Every number that the library accepts is one here too; the other cases have a number of their own.
+            Channel::Numbered(number) => ChannelNumber::new(number.value()).map_or(Self::Primary, Self::Numbered),
+            Channel::System => Self::System,
+            Channel::Current => Self::Current,
+        }
+    }
+}
+
+impl From<LogicalUnit> for connection::LogicalUnit {
+    fn from(unit: LogicalUnit) -> Self {
+        Self::from_low_bits(unit.value())
+    }
+}

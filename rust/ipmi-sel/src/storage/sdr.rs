@@ -1,0 +1,159 @@
+//! Event data and event texts. After src/storage/sdr/event_data.rs and event_offset.rs of ipmi-rs-core 0.6.0, changed: the library reads the
+//! bytes and writes the texts.
+
+use std::fmt;
+
+use crate::flat::Flat;
+use crate::nonmax::NonMaxU8;
+use crate::text;
+
+// All else of the module is the original's; a name that is declared below hides its namesake.
+#[cfg(feature = "ipmi-rs-core")]
+pub use ipmi_rs_core::storage::sdr::*;
+
+/// The code of a sensor type. Those that have event texts of their own have a name, which can be matched as the original's case can.
+#[derive(Copy, Clone, Debug, PartialEq, Eq)]
+pub struct SensorType(u8);
+
+#[allow(non_upper_case_globals)]
+impl SensorType {
+    pub const ChassisIntrusion: Self = Self(0x05);
+    pub const PlatformSecurityViolationAttempt: Self = Self(0x06);
+    pub const Processor: Self = Self(0x07);
+    pub const PowerSupply: Self = Self(0x08);
+    pub const PowerUnit: Self = Self(0x09);
+    pub const Memory: Self = Self(0x0C);
+    pub const DriveSlotBay: Self = Self(0x0D);
+    pub const SystemFirmwareProgress: Self = Self(0x0F);
+    pub const EventLoggingDisabled: Self = Self(0x10);
+    pub const Watchdog1: Self = Self(0x11);
+    pub const SystemEvent: Self = Self(0x12);
+    pub const CriticalInterrupt: Self = Self(0x13);
+    pub const ButtonOrSwitch: Self = Self(0x14);
+    pub const ChipSet: Self = Self(0x19);
+    pub const SystemBootOrRestartInitiated: Self = Self(0x1D);
+    pub const BootError: Self = Self(0x1E);
+    pub const BaseOsBootOrInstallationStatus: Self = Self(0x1F);
+    pub const OsStopOrShutdown: Self = Self(0x20);
+    pub const SystemACPIPowerState: Self = Self(0x22);
+    pub const Watchdog2: Self = Self(0x23);
+    pub const PlatformAlert: Self = Self(0x24);
+    pub const EntityPresence: Self = Self(0x25);
+    pub const LAN: Self = Self(0x27);
+    pub const ManagementSubSysHealth: Self = Self(0x28);
+    pub const Battery: Self = Self(0x29);
+    pub const SessionAudit: Self = Self(0x2A);
+    pub const VersionChange: Self = Self(0x2B);
+    pub const FRUState: Self = Self(0x2C);
+}
+
+impl From<u8> for SensorType {
+    fn from(code: u8) -> Self {
+        Self(code)
+    }
+}
+
+/// Writes the text of an event; of an event that has none, nothing.
+pub fn decode_event(f: &mut fmt::Formatter<'_>, event_type: u8, sensor_type: SensorType, offset: u8) -> fmt::Result {
+    text::event(f, [event_type, sensor_type.0, offset])
+}
+
+/// What byte 2 of the event data is.
+#[derive(Debug, Clone, Copy, PartialEq)]
+pub enum EventData2Type {
+    Unspecified,
+    TriggerReading(NonMaxU8),
+    OemCode(NonMaxU8),
+    SensorSpecific(NonMaxU8),
+}
+
+/// What byte 3 of the event data is.
+#[derive(Debug, Clone, Copy, PartialEq)]
+pub enum EventData3Type {
+    Unspecified,
+    TriggerThreshold(NonMaxU8),
+    OemCode(NonMaxU8),
+    SensorSpecific(NonMaxU8),
+}
+
+/// Kind and value of an unspecified byte, as a record can have them.
+const NO_DATA: (u8, u8) = (0, u8::MAX);
+
+// Both bytes are taken from the flat form and put back alike.
+macro_rules! data_byte {
+    ($byte:ident, $first:ident) => {
+        impl $byte {
+            /// Whether the byte carries no useful data.
+            pub fn is_unspecified(&self) -> bool {
+                matches!(self, Self::Unspecified)
+            }
+
+            fn decoded([kind, value]: [u8; 2]) -> Self {
+                match (kind, NonMaxU8::new(value)) {
+                    (1, Some(value)) => Self::$first(value),
+                    (2, Some(value)) => Self::OemCode(value),
+                    (3, Some(value)) => Self::SensorSpecific(value),
+                    _ => Self::Unspecified,
+                }
+            }
+
+            fn parts(self) -> (u8, u8) {
+                match self {
+                    Self::Unspecified => NO_DATA,
+                    Self::$first(value) => (1, value.get()),
+                    Self::OemCode(value) => (2, value.get()),
+                    Self::SensorSpecific(value) => (3, value.get()),
+                }
+            }
+        }
+    };
+}
+
+data_byte!(EventData2Type, TriggerReading);
+data_byte!(EventData3Type, TriggerThreshold);
+
+/// The text of the two bytes, put back as a record has them.
+fn data_text(f: &mut fmt::Formatter<'_>, (kind2, value2): (u8, u8), (kind3, value3): (u8, u8)) -> fmt::Result {
+    text::data(f, [kind2 << 6 | kind3 << 4, value2, value3])
+}
+
+impl fmt::Display for EventData2Type {
+    fn fmt(&self, f: &mut fmt::Formatter<'_>) -> fmt::Result {
+        data_text(f, self.parts(), NO_DATA)
+    }
+}
+
+impl fmt::Display for EventData3Type {
+    fn fmt(&self, f: &mut fmt::Formatter<'_>) -> fmt::Result {
+        data_text(f, NO_DATA, self.parts())
+    }
+}
+
+/// The three bytes of event data.
+#[derive(Debug, Clone, PartialEq)]
+pub struct EventData {
+    pub offset: u8,
+    pub data2_type: EventData2Type,
+    pub data3_type: EventData3Type,
+}
+
+impl EventData {
+    pub fn parse(data: &[u8; 3]) -> Self {
+        match Flat::decode(b'd', data) {
+            Ok(mut flat) => Self::decoded(&mut flat),
+            // Three bytes are never refused.
+            Err(_) => Self { offset: 0, data2_type: EventData2Type::Unspecified, data3_type: EventData3Type::Unspecified },
+        }
+    }
+
+    #[inline]
+    pub(crate) fn decoded(flat: &mut Flat) -> Self {
+        Self { offset: flat.byte(), data2_type: EventData2Type::decoded(flat.bytes()), data3_type: EventData3Type::decoded(flat.bytes()) }
+    }
+}
+
+impl fmt::Display for EventData {
+    fn fmt(&self, f: &mut fmt::Formatter<'_>) -> fmt::Result {
+        data_text(f, self.data2_type.parts(), self.data3_type.parts())
+    }
+}

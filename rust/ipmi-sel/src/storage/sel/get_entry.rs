@@ -1,0 +1,40 @@
+//! Get SEL Entry. After src/storage/sel/get_entry.rs of ipmi-rs-core 0.6.0, changed: the library reads the answer and writes the request.
+
+use std::num::NonZeroU16;
+
+use super::{Entry, ParseEntryError, RecordId};
+use crate::flat::Flat;
+use crate::nonmax::NonMaxU8;
+use crate::Request;
+
+/// Asks for a whole record.
+#[derive(Clone, Debug, PartialEq)]
+pub struct GetEntry {
+    reservation_id: Option<NonZeroU16>,
+    record_id: RecordId,
+    // Always these, as in the original, where `{:?}` shows them.
+    offset: u8,
+    bytes_to_read: Option<NonMaxU8>,
+}
+
+/// A record, and the id of the one after it.
+#[derive(Clone, Debug, PartialEq)]
+pub struct EntryInfo {
+    pub next_entry: RecordId,
+    pub entry: Entry,
+}
+
+impl GetEntry {
+    pub fn new(reservation_id: Option<NonZeroU16>, record_id: RecordId) -> Self {
+        Self { reservation_id, record_id, offset: 0, bytes_to_read: None }
+    }
+
+    pub fn request(&self) -> Request {
+        Request::new(0x43, self.reservation_id, self.record_id.value())
+    }
+
+    pub fn parse_success_response(data: &[u8]) -> Result<EntryInfo, ParseEntryError> {
+        let mut flat = Flat::decode(b'g', data)?;
+        Ok(EntryInfo { next_entry: RecordId::new_raw(flat.u16()), entry: Entry::decoded(&mut flat) })
+    }
+}

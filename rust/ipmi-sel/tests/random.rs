@@ -1,0 +1,224 @@
+//! Random calls, a hundred thousand of every function that the library stands behind, each with memory of exactly its length, so that
+//! valgrind sees a byte too many. What is asserted is little: that a call comes back is the test.
+
+use std::fmt;
+use std::num::{NonZeroU16, NonZeroU8};
+
+use dice::Dice;
+use ipmi_sel::capture::{find, record_bytes, refused_length, walk, AnswerKind, Walk, WalkError, SLOT};
+use ipmi_sel::connection::{Channel, ChannelNumber, LogicalUnit};
+use ipmi_sel::storage::sdr::{decode_event, EventData, SensorType};
+use ipmi_sel::storage::sel::{
+    ClearSel, Entry, EventGenerator, EventMessageRevision, GetSelEntry, GetSelInfo, ParseEntryError, RecordId, ReserveSel, SelAllocInfo,
+    SelGetAllocInfo, SelInfo,
+};
+use ipmi_sel::storage::{AllocInfo, Timestamp};
+
+mod dice;
+
+const CALLS: u64 = 100_000;
+
+/// Mostly about as long as answers are, now and then much longer.
+fn length(dice: &mut Dice) -> usize {
+    match dice.below(1000) {
+        0 => dice.below(3000),
+        1..=20 => dice.below(300),
+        _ => dice.below(24),
+    }
+}
+
+fn each_answer(mut test: impl FnMut(&[u8])) {
+    for seed in 0..CALLS {
+        let mut dice = Dice::new(seed.wrapping_mul(0x9E37_79B9_7F4A_7C15));
+        let length = length(&mut dice);
+        test(&dice.answer(length));
+    }
+}
+
+fn each_bytes<const N: usize>(mut test: impl FnMut([u8; N])) {
+    let mut dice = Dice::new(2);
+    for _ in 0..CALLS {
+        test(std::array::from_fn(|_| dice.byte()));
+    }
+}
+
+/// An event's text, written to whatever is formatted.
+struct Text<F: Fn(&mut fmt::Formatter<'_>) -> fmt::Result>(F);
+
+impl<F: Fn(&mut fmt::Formatter<'_>) -> fmt::Result> fmt::Display for Text<F> {
+    fn fmt(&self, f: &mut fmt::Formatter<'_>) -> fmt::Result {
+        self.0(f)
+    }
+}
+
+#[test]
+fn entries() {
+    each_answer(|bytes| {
+        let entry = Entry::parse(bytes);
+        assert_eq!(entry == Err(ParseEntryError::NotEnoughData), refused_length(AnswerKind::Entry, bytes.len()));
+    });
+}
+
+#[test]
+fn texts_of_entries() {
+    each_bytes(|mut record: [u8; 16]| {
+        // A system record of a channel that there is.
+        (record[2], record[8]) = (0x02, record[8] & 0x7F);
+        let entry = Entry::parse(&record).unwrap();
+        assert!(Text(|f| entry.event_description(f)).to_string().len() <= 70);
+    });
+}
+
+#[test]
+fn get_entries() {
+    each_answer(|bytes| {
+        let info = GetSelEntry::parse_success_response(bytes);
+        let refused = refused_length(AnswerKind::GetEntry, bytes.len());
+        assert_eq!(info.as_ref().err() == Some(&ParseEntryError::NotEnoughData), refused);
+        assert_eq!(record_bytes(bytes), if refused { &[] } else { &bytes[2..18] });
+        assert_eq!(info.map(|info| info.entry).ok(), Entry::parse(record_bytes(bytes)).ok());
+    });
+}
+
+#[test]
+fn infos() {
+    each_answer(|bytes| {
+        let refused = refused_length(AnswerKind::Info, bytes.len());
+        assert_eq!(GetSelInfo::parse_success_response(bytes).is_err(), refused);
+        assert!(SelInfo::from_data(bytes).map_or(0, |info| info.supported_cmds.len()) <= 4);
+    });
+}
+
+#[test]
+fn allocations() {
+    each_answer(|bytes| {
+        let refused = refused_length(AnswerKind::Allocation, bytes.len());
+        assert_eq!(SelGetAllocInfo::parse_success_response(bytes).is_err(), refused);
+        assert_eq!(SelAllocInfo::parse(bytes).is_none(), refused);
+        assert_eq!(AllocInfo::parse(bytes).is_none(), refused);
+    });
+}
+
+#[test]
+fn reservations_and_clearings() {
+    each_answer(|bytes| {
+        let reservation = ReserveSel::parse_success_response(bytes);
+        assert!(reservation.is_err() || !refused_length(AnswerKind::Reserve, bytes.len()));
+        assert_eq!(ClearSel::parse_success_response(bytes).is_err(), refused_length(AnswerKind::Clear, bytes.len()));
+    });
+}
+
+#[test]
+fn requests() {
+    each_bytes(|[b1, b2, b3, b4]| {
+        let reservation = NonZeroU16::new(u16::from_le_bytes([b1, b2]));
+        let id = RecordId::new(u16::from_le_bytes([b3, b4])).unwrap_or(RecordId::FIRST);
+        assert_eq!(GetSelEntry::new(reservation, id).request().payload().len(), 6);
+        assert_eq!(ClearSel::initiate(reservation).request().payload().len(), 6);
+        assert_eq!(ClearSel::get_status(reservation).request().payload().len(), 6);
+        for request in [GetSelInfo.request(), SelGetAllocInfo.request(), ReserveSel.request()] {
+            assert_eq!(request.payload(), []);
+        }
+    });
+}
+
+#[test]
+fn event_data_and_texts() {
+    each_bytes(|[b1, b2, b3]| {
+        let data = EventData::parse(&[b1, b2, b3]);
+        let lengths = [data.to_string().len(), data.data2_type.to_string().len(), data.data3_type.to_string().len()];
+        assert!(lengths.iter().all(|length| *length <= 26));
+        let text = |event_type| Text(move |f: &mut fmt::Formatter<'_>| decode_event(f, event_type, SensorType::from(b2), b3)).to_string();
+        assert!(text(b1).len() <= 70 && text(0x6F).len() <= 70 && text(b1 % 16).len() <= 70);
+    });
+}
+
+#[test]
+fn times() {
+    each_bytes(|bytes| {
+        let text = Timestamp::from(u32::from_le_bytes(bytes)).to_string();
+        assert!((1..=10).contains(&text.len()));
+    });
+}
+
+#[test]
+fn ids_channels_units() {
+    each_bytes(|[b1, b2]| {
+        let id = RecordId::new(u16::from_le_bytes([b1, b2]));
+        assert!(!id.is_some_and(|id| id.is_first() || id.is_last()));
+        assert_eq!(Channel::new(b1).map_or(b1, |channel| channel.value()), b1);
+        assert_eq!(NonZeroU8::new(b1).and_then(ChannelNumber::new).map_or(b1, |number| number.value().get()), b1);
+        assert!(LogicalUnit::try_from(b1).is_ok_and(|unit| unit.value() == b1) == (b1 < 4));
+        assert_eq!(LogicalUnit::from_low_bits(b1).value(), b1 % 4);
+        assert_eq!(EventGenerator::try_from((b1, b2)).is_ok(), Channel::new(b2 >> 4).is_some());
+        assert_eq!(matches!(EventMessageRevision::from(b1), EventMessageRevision::Unknown(_)), b1 != 3 && b1 != 4);
+    });
+}
+
+#[test]
+fn lengths() {
+    use AnswerKind::*;
+    let mut dice = Dice::new(3);
+    for _ in 0..CALLS {
+        let length = usize::MAX >> dice.below(64);
+        for kind in [Entry, GetEntry, Info, Allocation, Reserve, Clear] {
+            // The longest answer that is too short has 17 bytes.
+            assert!(refused_length(kind, length) == (kind == Info) || length < 18);
+        }
+    }
+}
+
+/// Slots with ids from few, so that there are chains, circles and gaps; now and then a byte too many or too few.
+fn capture(dice: &mut Dice, slots: usize) -> Box<[u8]> {
+    let ids = slots + 1 + dice.below(2);
+    let mut bytes = dice.bytes(slots * SLOT).into_vec();
+    for slot in 0..slots {
+        let next = if dice.below(8) == 0 { u16::MAX } else { dice.below(ids) as u16 };
+        bytes[slot * SLOT..][..2].copy_from_slice(&(dice.below(ids) as u16).to_le_bytes());
+        bytes[slot * SLOT + 2..][..2].copy_from_slice(&next.to_le_bytes());
+    }
+    match dice.below(16) {
+        0 => bytes.push(0),
+        1 => drop(bytes.pop()),
+        _ => (),
+    }
+    bytes.into_boxed_slice()
+}
+
+fn check_walk(dice: &mut Dice, slots: &[u8], budget: usize) {
+    let n = slots.len() / SLOT;
+    let places = (n + dice.below(4)).saturating_sub(1);
+    let mut list = vec![0xEEEE; places].into_boxed_slice();
+    let bad = slots.len() % SLOT != 0 || n > 3000;
+    let read = match walk(slots, budget, &mut list) {
+        Ok(Walk { read, .. }) => {
+            assert!(!bad && places >= n && read <= n.min(budget));
+            read
+        }
+        Err(why) => {
+            assert_eq!(why, if bad { WalkError::BadCapture } else { WalkError::NoRoom(n) });
+            assert!(bad || places < n);
+            0
+        }
+    };
+    assert!(list[..read].iter().all(|slot| usize::from(*slot) < n));
+    assert!(list[read..].iter().all(|place| *place == 0xEEEE));
+}
+
+#[test]
+fn walks_and_finds() {
+    let mut dice = Dice::new(4);
+    for call in 0..CALLS {
+        let slots = match call % 10_000 {
+            0 => [2999, 3000, 3001][dice.below(3)],
+            _ => dice.below(12),
+        };
+        let slots = capture(&mut dice, slots);
+        let budget = [dice.below(14), dice.below(4000), usize::MAX][dice.below(3)];
+        check_walk(&mut dice, &slots, budget);
+
+        let id = RecordId::new(dice.below(14) as u16).unwrap_or(RecordId::FIRST);
+        let first = slots.chunks_exact(SLOT).position(|slot| slot[..2] == id.value().to_le_bytes());
+        assert_eq!(find(&slots, id), first);
+    }
+}

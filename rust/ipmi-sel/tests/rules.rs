@@ -1,0 +1,311 @@
+//! Answers as docs/SCOPE.md has them. The expected values were written from its rules by hand.
+
+use std::fmt;
+use std::num::{NonZeroU16, NonZeroU8};
+
+use ipmi_sel::capture::{find, record_bytes, refused_length, walk, AnswerKind, Verdict, Walk, WalkError};
+use ipmi_sel::connection::{Channel, ChannelNumber, LogicalUnit, NotEnoughData};
+use ipmi_sel::nonmax::NonMaxU8;
+use ipmi_sel::storage::sdr::{decode_event, EventData, EventData2Type, EventData3Type, SensorType};
+use ipmi_sel::storage::sel::{
+    ClearSel, Entry, ErasureProgress, EventDirection, EventGenerator, EventMessageRevision, GetSelEntry, GetSelInfo, ParseEntryError,
+    RecordId, ReserveSel, SelAllocInfo, SelCommand, SelGetAllocInfo,
+};
+use ipmi_sel::storage::{AllocInfo, Timestamp};
+use ipmi_sel::Request;
+
+/// The record of docs/SCOPE.md's example: id 1, time 1000, address 10h, sensor type 01h, event type 01h, offset 9.
+const RECORD: [u8; 16] = [0x01, 0x00, 0x02, 0xE8, 0x03, 0x00, 0x00, 0x20, 0x00, 0x04, 0x01, 0x30, 0x01, 0x59, 0x5A, 0x55];
+
+fn changed<const N: usize>(mut bytes: [u8; N], place: usize, byte: u8) -> [u8; N] {
+    bytes[place] = byte;
+    bytes
+}
+
+fn record_id(id: u16) -> RecordId {
+    RecordId::new(id).unwrap()
+}
+
+fn value(byte: u8) -> NonMaxU8 {
+    NonMaxU8::new(byte).unwrap()
+}
+
+fn numbered(number: u8) -> Channel {
+    Channel::Numbered(ChannelNumber::new(NonZeroU8::new(number).unwrap()).unwrap())
+}
+
+struct EntryText(Entry);
+
+impl fmt::Display for EntryText {
+    fn fmt(&self, f: &mut fmt::Formatter<'_>) -> fmt::Result {
+        self.0.event_description(f)
+    }
+}
+
+struct Event(u8, u8, u8);
+
+impl fmt::Display for Event {
+    fn fmt(&self, f: &mut fmt::Formatter<'_>) -> fmt::Result {
+        decode_event(f, self.0, SensorType::from(self.1), self.2)
+    }
+}
+
+#[test]
+fn a_system_record() {
+    let entry = Entry::System {
+        record_id: record_id(1),
+        timestamp: Timestamp::from(1000),
+        generator_id: EventGenerator::RqSAAndLun { i2c_addr: 0x10, channel_number: Channel::Primary, lun: LogicalUnit::Zero },
+        event_message_format: EventMessageRevision::V2_0,
+        sensor_type: 0x01,
+        sensor_number: 0x30,
+        event_direction: EventDirection::Assert,
+        event_type: 0x01,
+        event_data: EventData {
+            offset: 9,
+            data2_type: EventData2Type::TriggerReading(value(90)),
+            data3_type: EventData3Type::TriggerThreshold(value(85)),
+        },
+    };
+    assert_eq!(Entry::parse(&RECORD), Ok(entry.clone()));
+    assert_eq!(Entry::parse(&[&RECORD[..], &[0xFF; 9]].concat()), Ok(entry.clone()));
+    assert_eq!(EntryText(entry).to_string(), "Upper Critical - going high");
+
+    let Ok(Entry::System { event_direction, event_type, .. }) = Entry::parse(&changed(RECORD, 12, 0xEF)) else { panic!() };
+    assert_eq!((event_direction, event_type), (EventDirection::Deassert, 0x6F));
+}
+
+#[test]
+fn generators_and_revisions() {
+    let by_address = EventGenerator::RqSAAndLun { i2c_addr: 0x10, channel_number: numbered(7), lun: LogicalUnit::Two };
+    let by_software = EventGenerator::SoftwareId { software_id: 0x10, channel_number: Channel::System };
+    assert_eq!(EventGenerator::try_from((0x20, 0x7E)), Ok(by_address));
+    assert_eq!(EventGenerator::try_from((0x21, 0xF3)), Ok(by_software));
+    assert_eq!(EventGenerator::try_from((0x21, 0xD0)), Err(ParseEntryError::InvalidChannel(0xD)));
+
+    let revisions = [0x03, 0x04, 0x05].map(EventMessageRevision::from);
+    assert_eq!(revisions, [EventMessageRevision::V1_0, EventMessageRevision::V2_0, EventMessageRevision::Unknown(0x05)]);
+}
+
+#[test]
+fn oem_records() {
+    let record = [0x02, 0x00, 0xC0, 0xE8, 0x03, 0x00, 0x00, 0xAB, 0xC0, 0x80, 1, 2, 3, 4, 5, 6];
+    let timed = Entry::OemTimestamped {
+        record_id: record_id(2),
+        ty: 0xC0,
+        timestamp: Timestamp::from(1000),
+        manufacturer_id: 0x80C0AB,
+        data: [1, 2, 3, 4, 5, 6],
+    };
+    assert_eq!(Entry::parse(&record), Ok(timed.clone()));
+    assert_eq!(EntryText(timed).to_string(), "");
+
+    let plain =
+        Entry::OemNotTimestamped { record_id: record_id(2), ty: 0xE0, data: [0xE8, 0x03, 0x00, 0x00, 0xAB, 0xC0, 0x80, 1, 2, 3, 4, 5, 6] };
+    assert_eq!(Entry::parse(&changed(record, 2, 0xE0)), Ok(plain));
+}
+
+#[test]
+fn refused_records() {
+    assert_eq!(Entry::parse(&RECORD[..15]), Err(ParseEntryError::NotEnoughData));
+    assert_eq!(Entry::parse(&changed(RECORD, 2, 0x03)), Err(ParseEntryError::UnknownRecordType(0x03)));
+    assert_eq!(Entry::parse(&changed(RECORD, 2, 0xBF)), Err(ParseEntryError::UnknownRecordType(0xBF)));
+    assert_eq!(Entry::parse(&changed(RECORD, 8, 0xC0)), Err(ParseEntryError::InvalidChannel(12)));
+    // Length first, then type, then channel.
+    assert_eq!(Entry::parse(&changed(RECORD, 2, 0x03)[..15]), Err(ParseEntryError::NotEnoughData));
+    assert_eq!(Entry::parse(&changed(changed(RECORD, 2, 0x03), 8, 0xC0)), Err(ParseEntryError::UnknownRecordType(0x03)));
+}
+
+#[test]
+fn get_entry() {
+    let answer = [&[0xFF, 0xFF], &RECORD[..]].concat();
+    let info = GetSelEntry::parse_success_response(&answer).unwrap();
+    assert_eq!((info.next_entry, info.entry), (RecordId::LAST, Entry::parse(&RECORD).unwrap()));
+    assert_eq!(GetSelEntry::parse_success_response(&answer[..17]), Err(ParseEntryError::NotEnoughData));
+    assert_eq!(GetSelEntry::parse_success_response(&changed([0; 18], 4, 0x01)), Err(ParseEntryError::UnknownRecordType(0x01)));
+
+    assert_eq!(record_bytes(&answer), RECORD);
+    assert_eq!(record_bytes(&[&answer[..], &[7]].concat()), RECORD);
+    assert_eq!(record_bytes(&answer[..17]), []);
+    assert_eq!(record_bytes(&[]), []);
+}
+
+#[test]
+fn info() {
+    let answer = [0x51, 0x0A, 0x00, 0xF0, 0x3F, 0xE8, 0x03, 0x00, 0x00, 0x00, 0x02, 0x00, 0x00, 0x8A];
+    let info = GetSelInfo::parse_success_response(&answer).unwrap();
+    assert_eq!((info.version_maj, info.version_min, info.entries, info.bytes_free), (1, 5, 10, 0x3FF0));
+    assert_eq!((info.last_add_time, info.last_del_time), (Timestamp::from(1000), Timestamp::from(512)));
+    assert!(info.overflow);
+    assert_eq!(info.supported_cmds, [SelCommand::Delete, SelCommand::Reserve]);
+
+    let all = GetSelInfo::parse_success_response(&changed(answer, 13, 0x7F)).unwrap();
+    assert!(!all.overflow);
+    assert_eq!(all.supported_cmds, [SelCommand::Delete, SelCommand::PartialAddEntry, SelCommand::Reserve, SelCommand::GetAllocInfo]);
+
+    assert_eq!(GetSelInfo::parse_success_response(&answer[..13]).err(), Some(NotEnoughData));
+    assert_eq!(GetSelInfo::parse_success_response(&[0; 15]).err(), Some(NotEnoughData));
+}
+
+#[test]
+fn allocation() {
+    let answer = [0x00, 0x04, 0x00, 0x00, 0x80, 0x00, 0x60, 0x01, 0x02];
+    let info = SelGetAllocInfo::parse_success_response(&answer).unwrap_or_else(|_| panic!());
+    assert_eq!((info.num_alloc_units, info.alloc_unit_size), (NonZeroU16::new(0x400), None));
+    assert_eq!((info.num_free_units, info.largest_free_blk, info.max_record_size), (0x80, 0x160, 2));
+    // Where the original panics.
+    assert!(AllocInfo::parse(&answer[..8]).is_none() && SelAllocInfo::parse(&answer[..8]).is_none());
+}
+
+#[test]
+fn reservation_and_clearing() {
+    assert_eq!(ReserveSel::parse_success_response(&[0x34, 0x12, 0x99]), Ok(NonZeroU16::new(0x1234).unwrap()));
+    for refused in [&[][..], &[1], &[0, 0], &[0, 0, 1]] {
+        assert_eq!(ReserveSel::parse_success_response(refused), Err(NotEnoughData));
+    }
+    assert_eq!(ClearSel::parse_success_response(&[0x11]), Ok(ErasureProgress::Completed));
+    assert_eq!(ClearSel::parse_success_response(&[0x02, 0x01]), Ok(ErasureProgress::InProgress));
+    assert_eq!(ClearSel::parse_success_response(&[]), Err(NotEnoughData));
+}
+
+#[test]
+fn requests() {
+    fn check(request: Request, command: u8, payload: &[u8]) {
+        assert_eq!((request.command(), request.payload()), (command, payload));
+    }
+    let reservation = NonZeroU16::new(0x1234);
+    check(GetSelInfo.request(), 0x40, &[]);
+    check(SelGetAllocInfo.request(), 0x41, &[]);
+    check(ReserveSel.request(), 0x42, &[]);
+    check(ClearSel::initiate(reservation).request(), 0x47, &[0x34, 0x12, 0x43, 0x4C, 0x52, 0xAA]);
+    check(ClearSel::get_status(None).request(), 0x47, &[0x00, 0x00, 0x43, 0x4C, 0x52, 0x00]);
+    check(GetSelEntry::new(None, RecordId::FIRST).request(), 0x43, &[0x00, 0x00, 0x00, 0x00, 0x00, 0xFF]);
+    check(GetSelEntry::new(reservation, record_id(0xABCD)).request(), 0x43, &[0x34, 0x12, 0xCD, 0xAB, 0x00, 0xFF]);
+}
+
+#[test]
+fn event_data() {
+    let data = EventData::parse(&[0xE5, 0x0A, 0x07]);
+    assert_eq!(
+        data,
+        EventData { offset: 5, data2_type: EventData2Type::SensorSpecific(value(10)), data3_type: EventData3Type::OemCode(value(7)) }
+    );
+    assert_eq!(data.to_string(), "ext2=0x0A, oem3=0x07");
+    assert_eq!((data.data2_type.to_string(), data.data3_type.to_string()), ("ext2=0x0A".into(), "oem3=0x07".into()));
+
+    let unspecified = EventData::parse(&[0xC0, 0xFF, 0xFF]);
+    assert!(unspecified.data2_type.is_unspecified() && unspecified.data3_type.is_unspecified());
+    assert_eq!(unspecified.to_string(), "");
+    assert_eq!(EventData::parse(&[0x50, 0x00, 0xFE]).to_string(), "reading=0, threshold=254");
+    // A built value, with an offset that no record has.
+    let built = EventData { offset: 0xFF, data2_type: EventData2Type::Unspecified, data3_type: EventData3Type::TriggerThreshold(value(1)) };
+    assert_eq!(built.to_string(), "threshold=1");
+}
+
+#[test]
+fn event_texts() {
+    assert_eq!(Event(0x01, 0x00, 9).to_string(), "Upper Critical - going high");
+    assert_eq!(Event(0x6F, 0x23, 3).to_string(), "Power Cycle");
+    assert_eq!(Event(0xEF, 0x23, 0xF3).to_string(), "Power Cycle");
+    assert_eq!(Event(0x6F, 0x22, 0xE).to_string(), "Unknown");
+    for none in [
+        Event(0x6F, 0x23, 4),
+        Event(0x6F, 0x23, 7),
+        Event(0x6F, 0x22, 0xD),
+        Event(0x00, 0x0C, 0),
+        Event(0x0D, 0x0C, 0),
+        Event(0x70, 0x0C, 0),
+    ] {
+        assert_eq!(none.to_string(), "");
+    }
+    assert!(matches!(SensorType::from(0x23), SensorType::Watchdog2));
+}
+
+#[test]
+fn times() {
+    for (time, text) in [(0, "Unknown"), (1, "1"), (1000, "1000"), (u32::MAX, "4294967295")] {
+        assert_eq!(Timestamp::from(time).to_string(), text);
+    }
+}
+
+#[test]
+fn ids_channels_units() {
+    assert_eq!((RecordId::new(0x0000), RecordId::new(0xFFFF)), (None, None));
+    assert_eq!(record_id(0xFFFE).value(), 0xFFFE);
+    assert_eq!(
+        [RecordId::FIRST, RecordId::LAST, record_id(1)].map(|id| (id.is_first(), id.is_last())),
+        [(true, false), (false, true), (false, false)]
+    );
+
+    for number in 0..=u8::MAX {
+        let expected = match number {
+            0x0 => Some(Channel::Primary),
+            0x1..=0xB => Some(numbered(number)),
+            0xE => Some(Channel::Current),
+            0xF => Some(Channel::System),
+            _ => None,
+        };
+        assert_eq!(Channel::new(number), expected);
+        assert_eq!(LogicalUnit::try_from(number).map(|unit| unit.value()), if number < 4 { Ok(number) } else { Err(()) });
+        assert_eq!(u8::from(LogicalUnit::from_low_bits(number)), number % 4);
+    }
+    assert_eq!(ChannelNumber::new(NonZeroU8::new(0xC).unwrap()), None);
+}
+
+#[test]
+fn lengths() {
+    use AnswerKind::*;
+    for length in 0..300 {
+        let refused = [
+            (Entry, length < 16),
+            (GetEntry, length < 18),
+            (Info, length != 14),
+            (Allocation, length < 9),
+            (Reserve, length < 2),
+            (Clear, length == 0),
+        ];
+        for (kind, refused) in refused {
+            assert_eq!(refused_length(kind, length), refused, "{kind:?} {length}");
+        }
+    }
+}
+
+/// A slot for each asked and next id.
+fn slots(links: &[(u16, u16)]) -> Vec<u8> {
+    links.iter().flat_map(|(ask, next)| [&ask.to_le_bytes()[..], &next.to_le_bytes(), &RECORD].concat()).collect()
+}
+
+/// The walk, and the list after it, of which every place was EEEEh.
+fn walked(links: &[(u16, u16)], budget: usize, places: usize) -> (Result<Walk, WalkError>, Vec<u16>) {
+    let mut list = vec![0xEEEE; places];
+    (walk(&slots(links), budget, &mut list), list)
+}
+
+#[test]
+fn walks() {
+    let found = |verdict, read| Ok(Walk { verdict, read });
+    let chain = [(0x0000, 0x0001), (0x0001, 0xFFFF)];
+    assert_eq!(walked(&[], 1, 0), (found(Verdict::Missing(RecordId::FIRST), 0), vec![]));
+    assert_eq!(walked(&[], 0, 1), (found(Verdict::Spent(RecordId::FIRST), 0), vec![0xEEEE]));
+    assert_eq!(walked(&chain, 1, 2), (found(Verdict::Spent(record_id(1)), 1), vec![0, 0xEEEE]));
+    assert_eq!(walked(&chain, 2, 3), (found(Verdict::Ended, 2), vec![0, 1, 0xEEEE]));
+    assert_eq!(walked(&[chain[1], chain[0]], usize::MAX, 2), (found(Verdict::Ended, 2), vec![1, 0]));
+    assert_eq!(walked(&[(0, 0)], 1, 1), (found(Verdict::Spent(RecordId::FIRST), 1), vec![0]));
+    assert_eq!(walked(&[(0, 0)], 2, 1), (found(Verdict::Circle, 1), vec![0]));
+    assert_eq!(walked(&[(0, 9), (5, 6)], 3, 2), (found(Verdict::Missing(record_id(9)), 1), vec![0, 0xEEEE]));
+    assert_eq!(walked(&chain, 0, 1), (Err(WalkError::NoRoom(2)), vec![0xEEEE]));
+
+    let mut list = [0xEEEE; 1];
+    assert_eq!(walk(&[0; 21], 1, &mut list), Err(WalkError::BadCapture));
+    assert_eq!(walk(&[0; 60_020], 1, &mut list), Err(WalkError::BadCapture));
+    assert_eq!(list, [0xEEEE]);
+}
+
+#[test]
+fn finds() {
+    let capture = slots(&[(0, 1), (7, 2), (7, 0xFFFF)]);
+    assert_eq!(find(&capture, RecordId::FIRST), Some(0));
+    assert_eq!(find(&capture, record_id(7)), Some(1));
+    assert_eq!(find(&capture, record_id(1)), None);
+    assert_eq!(find(&capture[..19], RecordId::FIRST), None);
+}

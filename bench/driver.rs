@@ -1,0 +1,113 @@
+//! The one driver of both sides: the original Rust and the C functions of the library are called on the same inputs, in the same loop.
+//!
+//!     driver rows                 the rows, a line each: name, number of inputs, slots tested a call, sides
+//!     driver check                asks both sides every input once, and compares the answers
+//!     driver log                  the 3,000 records of a whole log, in hexadecimal, a line each
+//!     driver SIDE ROUNDS ROW      calls a side of a row on each of its inputs, so many times over; SIDE `none` is the loop alone
+//!
+//! No buffer is cleared between two calls, on no side.
+
+mod inputs;
+#[allow(dead_code)] // the oracle asks more kinds
+mod kinds;
+mod ours;
+mod original;
+
+use std::fmt;
+use std::hint::black_box;
+
+/// What is lent to every call. It stays as the call before has left it.
+pub struct Room {
+    pub out: [u8; 128],
+    pub used: usize,
+    pub store: [u8; 6435],
+    pub starts: [u16; 640],
+    pub lengths: [u8; 640],
+    pub list: [u16; 3000],
+}
+
+/// The Rust writes its texts into the same fixed output.
+impl fmt::Write for Room {
+    fn write_str(&mut self, text: &str) -> fmt::Result {
+        let end = self.used + text.len();
+        self.out.get_mut(self.used..end).ok_or(fmt::Error)?.copy_from_slice(text.as_bytes());
+        self.used = end;
+        Ok(())
+    }
+}
+
+type Call = fn(&[u8], &mut Room);
+
+pub struct Row {
+    name: String,
+    inputs: Vec<Vec<u8>>,
+    /// Slots that a call tests; 0 where it is no search.
+    tested: usize,
+    rust: Option<Call>,
+    ours: Call,
+    /// What the Rust answers and what we answer, in the form of `replay`.
+    answers: (fn(&[u8]) -> String, fn(&[u8], &mut Room) -> String),
+}
+
+fn nothing(_: &[u8], _: &mut Room) {}
+
+#[inline(never)]
+fn each(rounds: usize, inputs: &[Vec<u8>], call: Call, room: &mut Room) {
+    for _ in 0..rounds {
+        for input in inputs {
+            call(input, room);
+        }
+    }
+}
+
+fn check(rows: &[Row], room: &mut Room) {
+    let mut compared = 0;
+    for row in rows {
+        let (rust, ours) = row.answers;
+        for input in &row.inputs {
+            let (rust, ours) = (rust(input), ours(input, room));
+            assert_eq!(rust, ours, "{}: {input:02X?}", row.name);
+            compared += 1;
+        }
+    }
+    println!("{compared} answers compared, no difference");
+}
+
+fn main() {
+    let mut room = Box::new(Room {
+        out: [0; 128],
+        used: 0,
+        store: [0; 6435],
+        starts: [0; 640],
+        lengths: [0; 640],
+        list: [0; 3000],
+    });
+    ours::fill_store(&mut room);
+    let rows = inputs::rows();
+    let words: Vec<String> = std::env::args().skip(1).collect();
+    match words.iter().map(String::as_str).collect::<Vec<_>>()[..] {
+        ["rows"] => {
+            for row in &rows {
+                let sides = if row.rust.is_some() { "rust ours" } else { "ours" };
+                println!("{}\t{}\t{}\t{sides}", row.name, row.inputs.len(), row.tested);
+            }
+        }
+        ["log"] => {
+            for record in inputs::log() {
+                println!("{}", record.iter().map(|byte| format!("{byte:02X}")).collect::<String>());
+            }
+        }
+        ["check"] => check(&rows, &mut room),
+        [side, rounds, name] => {
+            let row = rows.iter().find(|row| row.name == name).expect("a row");
+            let call = match side {
+                "none" => nothing,
+                "rust" => row.rust.expect("a row of the Rust"),
+                "ours" => row.ours,
+                _ => panic!("no such side"),
+            };
+            each(rounds.parse().unwrap(), &row.inputs, black_box(call), &mut room);
+        }
+        _ => panic!("driver rows | driver check | driver log | driver SIDE ROUNDS ROW"),
+    }
+}

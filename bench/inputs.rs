@@ -1,0 +1,213 @@
+//! The rows, and the inputs of each, made by fixed rules: the same in every run and for both sides.
+
+use crate::ours::answers;
+use crate::{kinds, original, ours, Call, Room, Row};
+
+/// Inputs of a row all have the length that its calls read.
+#[inline(always)]
+pub fn fixed<const N: usize>(data: &[u8]) -> &[u8; N] {
+    debug_assert!(data.len() >= N);
+    unsafe { &*data.as_ptr().cast() }
+}
+
+#[inline(always)]
+pub fn word(low: u8, high: u8) -> u16 {
+    u16::from_le_bytes([low, high])
+}
+
+/// 256 records, all accepted: 192 of the system, 32 of each kind of OEM.
+fn records() -> Vec<Vec<u8>> {
+    let record = |i: u32| {
+        let mut x = i.wrapping_mul(2654435761).wrapping_add(12345);
+        let mut record: Vec<u8> = (0..16)
+            .map(|_| {
+                x ^= x << 13;
+                x ^= x >> 17;
+                x ^= x << 5;
+                x as u8
+            })
+            .collect();
+        match i % 8 {
+            3 => record[2] = 0xC0 | record[2] & 31,
+            7 => record[2] = 0xE0 | record[2] & 31,
+            _ => {
+                record[2] = 2;
+                record[8] &= 0x7F; // a channel from 0 to 7
+            }
+        }
+        record
+    };
+    (0..256).map(record).collect()
+}
+
+/// Event type, sensor type and offset of each of the 249 texts.
+fn events() -> Vec<Vec<u8>> {
+    let generic = (1..=12).map(|event_type| (event_type, 0));
+    let specific = (0..=255).map(|sensor_type| (0x6F, sensor_type));
+    let all = generic.chain(specific).flat_map(|(event_type, sensor_type)| (0..16).map(move |offset| [event_type, sensor_type, offset]));
+    let texts: Vec<Vec<u8>> = all.filter(|event| kinds::event_text(*event) != "0").map(Vec::from).collect();
+    assert_eq!(texts.len(), 249);
+    texts
+}
+
+fn of_event(record: &[u8], event: &[u8]) -> Vec<u8> {
+    let mut record = record.to_vec();
+    (record[10], record[12], record[13]) = (event[1], event[0], event[2]);
+    record
+}
+
+/// 3,000 records with ids from 1 on. Those of the system have a text each.
+pub fn log() -> Vec<Vec<u8>> {
+    let (records, events) = (records(), events());
+    let with_id = |k: usize| {
+        let record = &records[k % records.len()];
+        let mut record = if record[2] == 2 { of_event(record, &events[k % events.len()]) } else { record.clone() };
+        record[..2].copy_from_slice(&(k as u16 + 1).to_le_bytes());
+        record
+    };
+    (0..3000).map(with_id).collect()
+}
+
+fn slot(ask: u16, next: u16) -> Vec<u8> {
+    [&ask.to_le_bytes()[..], &next.to_le_bytes(), &[0; 16]].concat()
+}
+
+/// A chain in reverse order: the last slot is asked first.
+fn chain(n: u16) -> Vec<u8> {
+    (0..n).rev().flat_map(|ask| slot(ask, if ask + 1 == n { 0xFFFF } else { ask + 1 })).collect()
+}
+
+/// The worst: a circle on the last slot, which every lookup goes to.
+fn circle(n: u16) -> Vec<u8> {
+    (0..n).rev().flat_map(|ask| slot(ask, 0)).collect()
+}
+
+fn cut(all: &[Vec<u8>], range: impl std::slice::SliceIndex<[u8], Output = [u8]> + Clone) -> Vec<Vec<u8>> {
+    all.iter().map(|bytes| bytes[range.clone()].to_vec()).collect()
+}
+
+fn those(all: &[Vec<u8>], keep: impl Fn(&[u8]) -> bool) -> Vec<Vec<u8>> {
+    all.iter().filter(|bytes| keep(bytes)).cloned().collect()
+}
+
+type Answers = (fn(&[u8]) -> String, fn(&[u8], &mut Room) -> String);
+
+fn row(name: &str, inputs: Vec<Vec<u8>>, rust: Call, ours: Call, answers: Answers) -> Row {
+    Row { name: name.into(), inputs, tested: 0, rust: Some(rust), ours, answers }
+}
+
+/// What the Rust does not have: the answers that the rules demand stand in for its own.
+fn of_ours(name: String, inputs: Vec<Vec<u8>>, tested: usize, ours: Call, answers: Answers) -> Row {
+    Row { name, inputs, tested, rust: None, ours, answers }
+}
+
+fn entries(records: &[Vec<u8>]) -> Vec<Row> {
+    let entry = |name, inputs| row(name, inputs, original::entry, ours::entry, (kinds::entry, answers::entry));
+    let by_address = |record: &[u8]| record[2] == 2 && record[7] % 2 == 0;
+    let by_software = |record: &[u8]| record[2] == 2 && record[7] % 2 == 1;
+    let timed = |record: &[u8]| (0xC0..0xE0).contains(&record[2]);
+    let untimed = |record: &[u8]| record[2] >= 0xE0;
+    let after_next = |record: &Vec<u8>| [&record[4..6], record].concat();
+    let get_entries: Vec<Vec<u8>> = records.iter().map(after_next).collect();
+    vec![
+        entry("entry, system by address", those(records, by_address)),
+        entry("entry, system by software", those(records, by_software)),
+        entry("entry, OEM with time", those(records, timed)),
+        entry("entry, OEM without time", those(records, untimed)),
+        entry("entry, all 256", records.to_vec()),
+        row("entry, all 256, by sel_decode", records.to_vec(), original::entry, ours::decode_entry, (kinds::entry, answers::decode_entry)),
+        entry("entry refused, 15 bytes", cut(records, ..15)),
+        row("get entry, all 256", get_entries.clone(), original::get_entry, ours::get_entry, (kinds::get_entry, answers::get_entry)),
+        row("get entry, all 256, by sel_decode", get_entries, original::get_entry, ours::decode_get_entry, (kinds::get_entry, answers::decode_get_entry)),
+    ]
+}
+
+fn others(records: &[Vec<u8>]) -> Vec<Row> {
+    let allocations = cut(records, ..9);
+    let event_data = |data: &[u8]| kinds::event_data(*fixed(data));
+    vec![
+        row("info", cut(records, 2..), original::info, ours::decode_info, (kinds::info, answers::decode_info)),
+        row("allocation", allocations.clone(), original::allocation, ours::allocation, (kinds::allocation, answers::allocation)),
+        row("allocation, by sel_decode", allocations, original::allocation, ours::decode_allocation, (kinds::allocation, answers::decode_allocation)),
+        row("reserve", cut(records, 3..5), original::reserve, ours::decode_reserve, (kinds::reserve, answers::decode_reserve)),
+        row("clear", cut(records, 3..4), original::clear, ours::decode_clear, (kinds::clear, answers::decode_clear)),
+        row("event data", cut(records, 13..), original::event_data, ours::decode_event_data, (event_data, answers::decode_event_data)),
+    ]
+}
+
+fn texts(records: &[Vec<u8>]) -> Vec<Row> {
+    let events = events();
+    let of_events = events.iter().map(|event| of_event(&records[0], event)).collect();
+    let event_text = |event: &[u8]| kinds::event_text(*fixed(event));
+    let data_text = |data: &[u8]| kinds::event_data_text(*fixed(data));
+    let time_text = |time: &[u8]| kinds::time_text(*fixed(time));
+    vec![
+        row("event text, single", events.clone(), original::event_text, ours::event_text, (event_text, answers::event_text)),
+        row("event text, store lent", events, original::event_text, ours::event_text_from, (event_text, answers::event_text_from)),
+        row("event text, single, of a record", of_events, original::entry_text, ours::decode_entry_text, (kinds::entry_text, answers::decode_entry_text)),
+        row("event data text", cut(records, 13..), original::event_data_text, ours::data_text, (data_text, answers::data_text)),
+        row("timestamp text", cut(records, 3..7), original::time_text, ours::time_text, (time_text, answers::time_text)),
+    ]
+}
+
+fn requests(records: &[Vec<u8>]) -> Vec<Row> {
+    let asked = |question: &[u8]| kinds::request(question).unwrap();
+    let with_action = |action: u8| records.iter().map(|record| vec![0x47, record[3], record[4], action]).collect();
+    let of_id = |record: &Vec<u8>| vec![0x43, record[3], record[4], record[0], record[1]];
+    vec![
+        row("request 40h", vec![vec![0x40]], original::request_info, ours::request_info, (asked, answers::request_info)),
+        row("request 41h", vec![vec![0x41]], original::request_allocation, ours::request_allocation, (asked, answers::request_allocation)),
+        row("request 42h", vec![vec![0x42]], original::request_reserve, ours::request_reserve, (asked, answers::request_reserve)),
+        row("request 43h", records.iter().map(of_id).collect(), original::request_entry, ours::request_entry, (asked, answers::request_entry)),
+        row("request 47h, erase", with_action(0xAA), original::request_erase, ours::request_erase, (asked, answers::request_erase)),
+        row("request 47h, status", with_action(0x00), original::request_status, ours::request_status, (asked, answers::request_status)),
+    ]
+}
+
+fn slots(capture: &[u8]) -> usize {
+    capture.len() / 20
+}
+
+fn searches() -> Vec<Row> {
+    let found = |capture: &[u8]| format!("1 {}", slots(capture) - 1);
+    let ended = |capture: &[u8]| format!("0 verdict=0 ask=0 read={} needed=0", slots(capture));
+    let in_circle = |capture: &[u8]| format!("0 verdict=3 ask=0 read={} needed=0", slots(capture));
+    let mut rows = Vec::new();
+    for n in [10, 100, 1000, 3000] {
+        let (n, chain, circle) = (usize::from(n), vec![chain(n)], vec![circle(n)]);
+        rows.push(of_ours(format!("find, last of {n}"), chain.clone(), n, ours::find, (found, answers::find)));
+        rows.push(of_ours(format!("walk, chain of {n}"), chain, n * (n + 1) / 2, ours::walk, (ended, answers::walk)));
+        rows.push(of_ours(format!("walk, circle of {n}"), circle, n * (n + 1), ours::walk, (in_circle, answers::walk)));
+    }
+    rows
+}
+
+/// By SCOPE's numbers: the least length, and for an info the only one.
+fn length_answer(question: &[u8]) -> String {
+    let length = question[1];
+    let enough = match question[0] {
+        b'e' => length >= 16,
+        b'g' => length >= 18,
+        b'i' => length == 14,
+        b'a' => length >= 9,
+        b'r' => length >= 2,
+        _ => length >= 1,
+    };
+    u8::from(!enough).to_string()
+}
+
+fn lengths() -> Row {
+    let questions = b"egiarc".iter().flat_map(|kind| (0..20).map(|length| vec![*kind, length, 0])).collect();
+    of_ours("length".into(), questions, 0, ours::length, (length_answer, answers::length))
+}
+
+pub fn rows() -> Vec<Row> {
+    let records = records();
+    let mut rows = entries(&records);
+    rows.extend(others(&records));
+    rows.extend(texts(&records));
+    rows.extend(requests(&records));
+    rows.push(lengths());
+    rows.extend(searches());
+    rows
+}

@@ -1,0 +1,167 @@
+//! Our side: the C functions of the static library, called as any C program calls them.
+
+#![allow(unused_variables)] // some calls need no input, or no room
+
+use std::hint::black_box;
+
+use crate::inputs::{fixed, word};
+use crate::Room;
+
+#[repr(C)]
+pub struct Answer {
+    number: u32,
+    value: u32,
+    length: usize,
+}
+
+#[repr(C)]
+pub struct Found {
+    found: usize,
+    slot: usize,
+}
+
+#[repr(C)]
+pub struct Walk {
+    number: u32,
+    verdict: u32,
+    ask: u32,
+    read: u32,
+    needed: u32,
+}
+
+#[link(name = "abi", kind = "static")]
+extern "C" {
+    fn sel_entry(data: *const u8, length: usize, out: *mut u8, room: usize) -> Answer;
+    fn sel_get_entry(data: *const u8, length: usize, out: *mut u8, room: usize) -> Answer;
+    fn sel_allocation(data: *const u8, length: usize, out: *mut u8, room: usize) -> Answer;
+    fn sel_decode(kind: u8, data: *const u8, length: usize, out: *mut u8, room: usize) -> Answer;
+    fn sel_length(kind: u8, length: usize) -> u32;
+    fn sel_event_text(event_type: u8, sensor_type: u8, offset: u8, out: *mut u8, room: usize) -> Answer;
+    fn sel_texts(store: *mut u8, bytes: usize, starts: *mut u16, s: usize, lengths: *mut u8, l: usize) -> Answer;
+    fn sel_event_text_from(
+        store: *const u8, bytes: usize, starts: *const u16, s: usize, lengths: *const u8, l: usize,
+        event_type: u8, sensor_type: u8, offset: u8, out: *mut u8, room: usize,
+    ) -> Answer;
+    fn sel_data_text(b1: u8, b2: u8, b3: u8, out: *mut u8, room: usize) -> Answer;
+    fn sel_time_text(time: u32, out: *mut u8, room: usize) -> Answer;
+    fn sel_request(command: u8, reservation: u16, argument: u16, out: *mut u8, room: usize) -> Answer;
+    fn sel_find(slots: *const u8, length: usize, id: u16) -> Found;
+    fn sel_walk(slots: *const u8, length: usize, budget: usize, list: *mut u16, places: usize) -> Walk;
+}
+
+pub fn fill_store(room: &mut Room) {
+    let Room { store, starts, lengths, .. } = room;
+    let answer = unsafe { sel_texts(store.as_mut_ptr(), store.len(), starts.as_mut_ptr(), starts.len(), lengths.as_mut_ptr(), lengths.len()) };
+    assert_eq!(answer.number, 0, "sel_texts");
+}
+
+#[inline(always)]
+unsafe fn decode(kind: u8, data: &[u8], room: &mut Room) -> Answer {
+    sel_decode(kind, data.as_ptr(), data.len(), room.out.as_mut_ptr(), room.out.len())
+}
+
+#[inline(always)]
+unsafe fn request(command: u8, reservation: u16, argument: u16, room: &mut Room) -> Answer {
+    sel_request(command, reservation, argument, room.out.as_mut_ptr(), room.out.len())
+}
+
+/// Each call is said once: `NAME` makes it and keeps the answer, `answers::NAME` makes it and shows the answer in the form of `replay`.
+macro_rules! calls {
+    ($($name:ident, $shown:ident: |$data:ident, $room:ident| $answer:expr;)*) => {
+        $(pub fn $name($data: &[u8], $room: &mut Room) {
+            black_box(&unsafe { $answer });
+        })*
+
+        pub mod answers {
+            use super::*;
+
+            $(pub fn $name($data: &[u8], $room: &mut Room) -> String {
+                let answer = unsafe { $answer };
+                $shown(answer, $room)
+            })*
+        }
+    };
+}
+
+calls! {
+    entry, hex: |data, room| sel_entry(data.as_ptr(), data.len(), room.out.as_mut_ptr(), room.out.len());
+    get_entry, hex: |data, room| sel_get_entry(data.as_ptr(), data.len(), room.out.as_mut_ptr(), room.out.len());
+    allocation, hex: |data, room| sel_allocation(data.as_ptr(), data.len(), room.out.as_mut_ptr(), room.out.len());
+    decode_entry, hex: |data, room| decode(b'e', data, room);
+    decode_get_entry, hex: |data, room| decode(b'g', data, room);
+    decode_allocation, hex: |data, room| decode(b'a', data, room);
+    decode_info, hex: |data, room| decode(b'i', data, room);
+    decode_reserve, hex: |data, room| decode(b'r', data, room);
+    decode_clear, hex: |data, room| decode(b'c', data, room);
+    decode_event_data, hex: |data, room| decode(b'd', data, room);
+    decode_entry_text, text: |data, room| decode(b'y', data, room);
+    event_text, text: |event, room| {
+        let [event_type, sensor_type, offset] = *fixed(event);
+        sel_event_text(event_type, sensor_type, offset, room.out.as_mut_ptr(), room.out.len())
+    };
+    event_text_from, text: |event, room| {
+        let [event_type, sensor_type, offset] = *fixed(event);
+        let Room { store, starts, lengths, out, .. } = room;
+        sel_event_text_from(
+            store.as_ptr(), store.len(), starts.as_ptr(), starts.len(), lengths.as_ptr(), lengths.len(),
+            event_type, sensor_type, offset, out.as_mut_ptr(), out.len(),
+        )
+    };
+    data_text, text: |data, room| {
+        let [b1, b2, b3] = *fixed(data);
+        sel_data_text(b1, b2, b3, room.out.as_mut_ptr(), room.out.len())
+    };
+    time_text, text: |time, room| sel_time_text(u32::from_le_bytes(*fixed(time)), room.out.as_mut_ptr(), room.out.len());
+    request_info, hex: |question, room| request(0x40, 0, 0, room);
+    request_allocation, hex: |question, room| request(0x41, 0, 0, room);
+    request_reserve, hex: |question, room| request(0x42, 0, 0, room);
+    request_erase, hex: |question, room| {
+        let [_, low, high, _] = *fixed(question);
+        request(0x47, word(low, high), 0xAA, room)
+    };
+    request_status, hex: |question, room| {
+        let [_, low, high, _] = *fixed(question);
+        request(0x47, word(low, high), 0x00, room)
+    };
+    request_entry, hex: |question, room| {
+        let [_, low, high, id_low, id_high] = *fixed(question);
+        request(0x43, word(low, high), word(id_low, id_high), room)
+    };
+    length, number: |question, room| {
+        let [kind, low, high] = *fixed(question);
+        sel_length(kind, word(low, high) as usize)
+    };
+    // The last slot's id is 0000: every slot is tested.
+    find, slot: |slots, room| sel_find(slots.as_ptr(), slots.len(), 0x0000);
+    // With one lookup more than there are slots.
+    walk, verdict: |slots, room| sel_walk(slots.as_ptr(), slots.len(), slots.len() / 20 + 1, room.list.as_mut_ptr(), room.list.len());
+}
+
+fn refused_or(answer: Answer, room: &Room, shown: impl Fn(&[u8]) -> String) -> String {
+    match answer.number {
+        0 if answer.length == 0 => "0".into(),
+        0 => format!("0 {}", shown(&room.out[..answer.length])),
+        1 => "1".into(),
+        number => format!("{number} {:02X}", answer.value),
+    }
+}
+
+fn hex(answer: Answer, room: &Room) -> String {
+    refused_or(answer, room, |bytes| bytes.iter().map(|byte| format!("{byte:02X}")).collect())
+}
+
+fn text(answer: Answer, room: &Room) -> String {
+    refused_or(answer, room, |bytes| String::from_utf8(bytes.to_vec()).unwrap())
+}
+
+fn number(answer: u32, _: &Room) -> String {
+    answer.to_string()
+}
+
+fn slot(answer: Found, _: &Room) -> String {
+    format!("{} {}", answer.found, answer.slot)
+}
+
+fn verdict(answer: Walk, _: &Room) -> String {
+    format!("{} verdict={} ask={} read={} needed={}", answer.number, answer.verdict, answer.ask, answer.read, answer.needed)
+}

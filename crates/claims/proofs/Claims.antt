@@ -1,0 +1,23 @@
+-- The claims hold. Assumes nothing.
+use Rattle.claims.specs.Claims.{Claims}
+use Rattle.claims.specs.Demand2.{Demand2}
+use Rattle.claims.proofs.Cases.{cases}
+use Rattle.claims.proofs.Demand1.{demand-1}
+use Rattle.claims.proofs.Demand3.{demand-3}
+use Rattle.claims.proofs.Fields.{decoded}
+use Rattle.claims.proofs.Requests.{requests}
+use Rattle.claims.proofs.Texts.{data-texts, event-texts, time-texts, writes}
+
+pub demand-2 : Demand2
+demand-2 =
+    record {
+      decoded = decoded;
+      eventTexts = event-texts;
+      dataTexts = data-texts;
+      timeTexts = time-texts;
+      requests = requests;
+      writes = writes;
+    }
+
+pub claims : Claims
+claims = record { demand1 = demand-1; demand2 = demand-2; demand3 = demand-3; cases = cases }

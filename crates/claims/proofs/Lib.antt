@@ -1,0 +1,8 @@
+pub mod Cases
+pub mod Claims
+pub mod Demand1
+pub mod Demand3
+pub mod Fields
+mod Lines
+pub mod Requests
+pub mod Texts

@@ -1,0 +1,21 @@
+-- The requests. Assumes nothing.
+use Prim.Native.Nat.{ℕ}
+use mathlib.Core.Path.{refl, _∙_}
+use native.Mathlib.Omega.{arith}
+use borrow.Author.Tests.{le-leb}
+use lib.ListN.{length}
+use Rattle.get_entry.specs.GetEntry.{entryRequest}
+use Rattle.sel_commands.specs.Clear.{clearRequest}
+use Rattle.flat_requests.specs.Requests.{requestOf}
+use Rattle.claims.specs.Requests.{Requests}
+
+pub requests : Requests
+unfolding clearRequest entryRequest requestOf
+requests =
+    record {
+      erase = λ reservation. refl;
+      status = λ reservation. refl;
+      getEntry = λ reservation id. refl;
+      none = λ command reservation argument a b. simp (le-leb 0x40 command a, le-leb command 0x42 b);
+      bare = λ out left r w. (w .answered ∙ rw (le-leb 0 (length out) (omega arith)), w .leaves ∙ rw (le-leb 0 (length out) (omega arith)));
+    }

@@ -1,0 +1,13 @@
+-- Demand 2: decoded fields, event texts and request bytes, against what the standard and the Rust say of them (docs/DIFFERENCES.md where these
+-- differ). So a parser that refuses all or answers one entry, and a writer that writes nothing, meet none of it. Assumes nothing.
+use Rattle.claims.specs.Fields.{Decoded}
+use Rattle.claims.specs.Requests.{Requests}
+use Rattle.claims.specs.Texts.{DataTexts, EventTexts, TimeTexts, Writes}
+
+pub record Demand2 : Type 0 where
+  pub decoded : Decoded
+  pub eventTexts : EventTexts
+  pub dataTexts : DataTexts
+  pub timeTexts : TimeTexts
+  pub requests : Requests
+  pub writes : Writes

@@ -1,0 +1,9 @@
+pub mod Cases
+pub mod Claims
+pub mod Demand1
+pub mod Demand2
+pub mod Demand3
+pub mod Fields
+pub mod Promises
+pub mod Requests
+pub mod Texts

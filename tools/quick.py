@@ -67,6 +67,29 @@ def listed(root):
     return {m.group(1): n for n, x in enumerate(lines, 1) if (m := re.match(r'- `([\w:]+)` requires \S', x))}
 
 
+def stated(root, crate):
+    """The functions that docs/STATEMENTS.md has in the first cells of a crate's tables: {name: line}."""
+    page, names, inside = root / 'docs/STATEMENTS.md', {}, False
+    for n, x in enumerate(page.read_text().splitlines() if page.is_file() else [], 1):
+        inside = x == f'## {crate}' if x.startswith('## ') else inside
+        if inside and x.startswith('| `'):
+            names.update((name, n) for name in re.findall(r'`([\w:]+)`', x.split('|')[1]))
+    return names
+
+
+def stating_faults(root, crate):
+    """Public functions that the page leaves out, and functions of the page that are not there."""
+    base, said, there = root / 'crates' / crate / 'src', stated(root, crate), set()
+    public = set(re.findall(r'\bpub\s+mod\s+(\w+)', code_of(base / 'lib.rt')))
+    for f in sorted(base.rglob('*.rt')):
+        for n, name, _, _ in functions(code_of(f)):
+            whole = '::'.join([p for p in f.relative_to(base).with_suffix('').parts if p in public] + [name])
+            there.add(whole)
+            if whole not in said:
+                yield f'{f.relative_to(root)}:{n}: docs/STATEMENTS.md does not state {crate}::{whole}'
+    yield from (f'docs/STATEMENTS.md:{n}: {crate}::{x} is stated, and is not there' for x, n in said.items() if x not in there)
+
+
 def source_faults(root, crate, met):
     argued = listed(root)
     files = {f: code_of(f) for f in sorted((root / 'crates' / crate / 'src').rglob('*.rt'))}
@@ -127,16 +150,18 @@ def of_data(kind, known):
 
 def claims(root):
     """(crate, name, fields) of each record of specs/ whose fields are not all data; and the names of which data is made."""
-    found, known = [], set(DATA)
+    found, made, known = [], [], set(DATA)
     for f in sorted((root / 'crates').glob('*/specs/**/*.antt')):
         antt = antt_of(f)
         found += [(f.relative_to(root).parts[1], name, fields) for name, fields in records(antt)]
+        made += [(name, re.findall(r' : (.*)', cases)) for name, cases in re.findall(r'(?m)^(?:pub )?data (\S+) : Type 0 where\n((?:  \S.*\n?)+)', antt)]
         for m in re.finditer(r'(?m)^use \S*\.declared\.\S*\.\{([^}]*)\}', antt):
             known |= {n.strip() for n in m.group(1).split(',')}
-    while True:  # a record of data is data for the next
+    while True:  # a record of data is data for the next, and so is what is made of data alone
         claiming = [r for r in found if not all(of_data(t, known) for t in r[2])]
-        more = {name for _, name, _ in found} - {name for _, name, _ in claiming} - known
-        if not more:
+        more = {name for _, name, _ in found} - {name for _, name, _ in claiming}
+        more |= {name for name, kinds in made if all(of_data(t, known | {name}) for t in kinds)}
+        if not more - known:
             return claiming, known
         known |= more
 
@@ -218,6 +243,7 @@ def faults(root):
     for c in sorted(there):
         if (root / 'crates' / c / 'src/lib.rt').is_file():
             yield from source_faults(root, c, met)
+            yield from stating_faults(root, c)
         yield from file_faults(root, c)
     yield from (f'docs/STATEMENTS.md:{n}: {x} is listed, and has no requires' for x, n in listed(root).items() if x not in met)
     yield from unproved_claims(root)

@@ -1,0 +1,482 @@
+"""tools/capture with ipmitool: on a simulated controller, OpenIPMI's ipmi_sim, at 127.0.0.1, and on tools/controller."""
+
+import atexit
+import csv
+import datetime
+import math
+import os
+import pathlib
+import random
+import re
+import select
+import signal
+import socket
+import subprocess
+import tempfile
+import threading
+import time
+
+from common import CAPTURE, ROOT, SECONDS, convert, examples, expect, made_from, printed_for, same, test, text_of
+
+LAN = """name "sel"
+set_working_mc 0x20
+  startlan 1
+    addr 127.0.0.1 {port}
+    priv_limit admin
+    allowed_auths_admin none md5
+    guid a123456789abcdefa123456789abcdef
+  endlan
+  user 2 true "tester" "secret" admin 10 none md5
+"""
+COMMANDS = """mc_setbmc 0x20
+mc_add 0x20 0 no-device-sdrs 0x23 9 8 0x9f 0x1291 0xf02
+sel_enable 0x20 3000 0x0a
+mc_enable 0x20
+"""
+SUMMER = 0x6A4F2AD3  # a time in July 2026
+FREEIPMI_HAS_OTHER_WORDS = """
+6F 05 5 Unauthorized dock
+6F 07 B Machine Check Exception
+6F 0C 0 Correctable memory error
+6F 0C 1 Uncorrectable memory error
+6F 0C 5 Correctable memory error logging limit reached
+6F 12 5 Timestamp Clock Synch
+6F 19 1 Event Offset = 01h (Event Type Code = 6Fh)
+6F 1B 0 Cable/Interconnect is connected
+6F 1B 1 Configuration Error - Incorrect cable connected
+6F 20 0 Critical stop during OS load
+6F 21 0 Fault Status asserted
+6F 21 1 Identify Status asserted
+6F 21 2 Slot/Connector Device installed/attached
+6F 21 3 Slot/Connector Ready for Device Installation
+6F 21 4 Slot/Connector Ready for Device Removal
+6F 21 5 Slot Power is Off
+6F 21 6 Slot/Connector Device Removal Request
+6F 21 7 Interlock asserted
+6F 21 8 Slot is Disabled
+6F 21 9 Slot holds spare device
+6F 22 0 S0/G0
+6F 22 1 S1
+6F 22 2 S2
+6F 22 3 S3
+6F 22 4 S4
+6F 22 5 S5/G2
+6F 22 6 S4/S5 soft-off
+6F 22 D Unspecified
+6F 23 4 reserved
+6F 23 5 reserved
+6F 23 6 reserved
+6F 23 7 reserved
+6F 24 3 platform generated SNMP trap, OEM format
+""".strip().splitlines()
+
+
+# ---- the records, and what must be printed for them
+
+
+def every_event():
+    """A record for each event type and offset of the standard's two tables: 12 generic types, and the specific one of 44 sensor types."""
+    for event_type, sensor in [*((event_type, 0x01) for event_type in range(0x01, 0x0D)), *((0x6F, sensor) for sensor in range(0x01, 0x2D))]:
+        for offset in range(16):
+            yield bytes([0, 0, 2, *SUMMER.to_bytes(4, "little"), 0x20, 0x00, 0x04, sensor, 0x30, event_type, offset, 0xFF, 0xFF])
+
+
+def any_records(count):
+    chance = random.Random(10)
+    for _ in range(count):
+        kind = chance.choice([0x02] * 10 + [0xC0, 0xC1, 0xDF, 0xE0, 0xE2, 0xFF, 0x00, 0x01, 0x03, 0xBF])
+        moment = chance.randrange(2 ** chance.choice([29, 32]) - 0x10000)  # with room for what the clock goes on
+        yield bytes([0, 0, kind, *moment.to_bytes(4, "little"), *(chance.randrange(256) for _ in range(9))])
+
+
+def number(part):
+    return int.from_bytes(part, "little")
+
+
+def data_text(first, second, third):
+    words = []
+    for byte, kind, value in ((2, first >> 6, second), (3, first >> 4 & 3, third)):
+        if kind and value != 0xFF:
+            words.append(f"{'reading' if byte == 2 else 'threshold'}={value}" if kind == 1 else f"{'oem' if kind == 2 else 'ext'}{byte}=0x{value:02X}")
+    return ", ".join(words)
+
+
+def must_print(record, event):
+    """The line of a record, by docs/SCOPE.md, with the text of its event."""
+    id, kind, moment, data = f"id={number(record[:2]):04X}", record[2], number(record[3:7]) or "Unknown", record.hex().upper()
+    if 0xC0 <= kind <= 0xDF:
+        return f"{id} type={kind:02X} time={moment} maker={number(record[7:10])} data={data[20:]}"
+    if 0xE0 <= kind:
+        return f"{id} type={kind:02X} data={data[6:]}"
+    if kind != 0x02:
+        return f"{id} refused=2 value={kind:02X}"
+    channel, unit = record[8] >> 4, record[8] & 3
+    if channel in (0xC, 0xD):
+        return f"{id} refused=3 value={channel:02X}"
+    generator = f"sw:{record[7] >> 1:02X} chan={channel:X}" if record[7] & 1 else f"i2c:{record[7] >> 1:02X} chan={channel:X} lun={unit:X}"
+    direction = "deassert" if record[12] & 0x80 else "assert"
+    return (f"{id} time={moment} gen={generator} rev={record[9]:02X} sensor={record[10]:02X} number={record[11]:02X} dir={direction}"
+            f" type={record[12] & 0x7F:02X} event={event} data={data_text(*record[13:])}")
+
+
+def event_of(record):
+    """Event type, sensor type and offset, as far as they decide the text."""
+    event_type = record[12] & 0x7F
+    return event_type, record[10] if event_type == 0x6F else None, record[13] & 0x0F
+
+
+FIELDS = re.compile(r"id=(?P<id>\w+) (?:refused=(?P<refused>\d) value=(?P<value>\w+)|type=(?P<kind>\w+) (?:time=(?P<moment>\w+) maker=(?P<maker>\d+) )?data=(?P<bytes>\w+)"
+                    r"|time=(?P<time>\w+) gen=(?P<by>i2c|sw):(?P<address>\w+) chan=(?P<channel>\w)(?: lun=(?P<unit>\w))? rev=(?P<revision>\w+) sensor=(?P<sensor>\w+)"
+                    r" number=(?P<number>\w+) dir=(?P<direction>\w+) type=(?P<type>\w+) event=(?P<event>.*) data=(?P<data>.*))")
+
+
+def fields_of(line):
+    return {name: value for name, value in FIELDS.fullmatch(line).groupdict().items() if value is not None}
+
+
+# ---- the simulated controller
+
+
+class Simulator:
+    """A controller whose log has all these records, read back once through tools/capture."""
+
+    def __init__(self):
+        self.start()
+        self.fill()
+        self.read()
+
+    def start(self):
+        folder = tempfile.TemporaryDirectory()
+        self.path = pathlib.Path(folder.name)
+        self.environment = {**os.environ, "HOME": folder.name, "TZ": "UTC"}  # FreeIPMI keeps files at home
+        with socket.socket(socket.AF_INET, socket.SOCK_DGRAM) as free:
+            free.bind(("127.0.0.1", 0))
+            self.port = free.getsockname()[1]
+        (self.path / "lan").write_text(LAN.format(port=self.port))
+        (self.path / "commands").write_text(COMMANDS)
+        self.process = subprocess.Popen(["ipmi_sim", "-n", "-c", self.path / "lan", "-f", self.path / "commands", "-s", self.path],
+                                        stdin=subprocess.DEVNULL, stdout=subprocess.DEVNULL, stderr=subprocess.DEVNULL)
+        atexit.register(folder.cleanup)
+        atexit.register(self.process.kill)
+        self.user = ["-H", "127.0.0.1", "-p", str(self.port), "-U", "tester", "-P", "secret"]
+        self.options = ["-I", "lan", *self.user]
+        end = time.monotonic() + SECONDS
+        while self.run("ipmitool", *self.options, "mc", "guid").returncode != 0:
+            expect(time.monotonic() < end and self.process.poll() is None, "ipmi_sim does not answer")
+
+    def fill(self):
+        """Adds the records, its clock set to the time of each before."""
+        first, events = [record for _, records, _ in examples() for record in records], [*every_event()]
+        self.records = [*first, *events, *any_records(100)]
+        self.events = slice(len(first), len(first) + len(events))
+        commands = [[0x0A, command, *data] for record in self.records for command, data in ((0x49, record[3:7]), (0x44, record))]
+        (self.path / "add").write_text("".join(f"raw {' '.join(map(hex, command))}\n" for command in commands))
+        start = time.monotonic()
+        self.ipmitool("exec", str(self.path / "add"))
+        self.late = math.ceil(time.monotonic() - start) + 1  # by so many seconds at most a time is late
+
+    def read(self):
+        self.file = self.path / "capture.txt"
+        self.said = self.run(CAPTURE, "live", self.file, *self.options, seconds=10 * SECONDS)
+        self.slots = [(int(line[4:8], 16), int(line[14:18], 16), bytes.fromhex(line[26:58])) for line in self.file.read_text().splitlines()]
+        self.lines = printed_for(self.file.read_text())
+
+    def run(self, *command, seconds=SECONDS):
+        return subprocess.run(command, env=self.environment, stdin=subprocess.DEVNULL, stdout=subprocess.PIPE, stderr=subprocess.PIPE, encoding="latin-1", timeout=seconds)
+
+    def ipmitool(self, *words):
+        said = self.run("ipmitool", *self.options, *words)
+        expect(said.returncode == 0, words, said.stderr)
+        return said.stdout
+
+
+STARTED = []
+
+
+def simulator():
+    """One for all tests; where it does not come up, each of them fails at once."""
+    if not STARTED:
+        STARTED.append(None)
+        STARTED[0] = Simulator()
+    expect(STARTED[0], "there is no simulated controller")
+    return STARTED[0]
+
+
+@test
+def the_log_is_read_whole_and_in_order():
+    it = simulator()
+    same((it.said.returncode, it.said.stderr.splitlines()[-1]), (0, f"capture: {it.file} has {len(it.records)} slots: ended"))
+    ids = range(1, len(it.records) + 1)
+    same(it.slots, [*zip([0, *ids[1:]], [*ids[1:], 0xFFFF], (record for _, _, record in it.slots))])
+    for id, record, (_, _, stands) in zip(ids, it.records, it.slots):
+        if record[2] < 0xE0:  # the controller writes the time
+            since = number(stands[3:7]) - number(record[3:7])
+            expect(0 <= since <= it.late, "record", id, "is late by", since)
+            record = record[:3] + stands[3:7] + record[7:]
+        same(stands, id.to_bytes(2, "little") + record[2:])
+
+
+@test
+def every_record_is_printed_as_it_was_added():
+    it = simulator()
+    same(it.lines[-1], f"walk=ended read={len(it.records)}")
+    same(len(it.lines), len(it.records) + 1)
+    # The texts of one record for each event are left to FreeIPMI; any other record has the same text, or none where there is no such event.
+    texts = {event_of(record): fields_of(line)["event"] for line, (_, _, record) in [*zip(it.lines, it.slots)][it.events]}
+    for line, (_, _, record) in zip(it.lines, it.slots):
+        same(line, must_print(record, texts.get(event_of(record), "")))
+
+
+@test
+def the_examples_are_printed_as_they_are_stored():
+    """But for the ids, which the controller gives, and what its clock went on between being set and adding."""
+    it = simulator()
+    stored = [line for _, _, printed in examples() for line in printed[:-1]]
+    for line, must in zip(it.lines, stored):
+        id, moment = (re.search(rf"\b{name}=\w+", line) for name in ("id", "time"))
+        must = re.sub(r"^id=\w+", id[0], must)
+        same(line, re.sub(r"\btime=\w+", moment[0], must) if moment else must)
+
+
+def said_by_ipmitool(it):
+    """What `ipmitool -v sel list` says of each record, by name; and the date and the time of `ipmitool -c sel list`."""
+    for block, row in zip(it.ipmitool("-v", "sel", "list").split("\n\n"), csv.reader(it.ipmitool("-c", "sel", "list").splitlines())):
+        said = {name.strip(): words.strip() for name, _, words in (line.partition(":") for line in block.splitlines())}
+        yield {**said, "Date": row[1].strip(), "Time": row[2]}
+
+
+# ipmitool calls 0Ch reserved; the standard has a class of texts for it, and so has ipmitool.
+EVENT_TYPES = {0x00: "Unspecified", 0x01: "Threshold", 0x6F: "Sensor-specific Discrete", **dict.fromkeys(range(0x02, 0x0C), "Generic Discrete"),
+               **dict.fromkeys(range(0x70, 0x80), "OEM")}
+
+
+def in_words_of_ipmitool(line, sensors, said):
+    """What ipmitool must say of a record, from its line."""
+    stands = fields_of(line)
+    must = {"SEL Record ID": stands["id"].lower()}
+    if "time" in stands or "moment" in stands:
+        moment = stands.get("time", stands.get("moment"))
+        moment = 0 if moment == "Unknown" else int(moment)
+        shown = datetime.datetime.fromtimestamp(moment, datetime.timezone.utc)
+        must["Date"], must["Time"] = ("Pre-Init", f"{moment:010}") if moment < 0x20000000 else (f"{shown:%m/%d/%y}", f"{shown:%H:%M:%S} UTC")
+    if "refused" in stands:
+        return {**must, "Record Type": stands["value"].lower()} if stands["refused"] == "2" else {**must, "Record Type": "02", "Generator ID": stands["value"][1].lower() + said["Generator ID"][1:]}
+    if "kind" in stands:
+        timed = "maker" in stands
+        must["Record Type"] = f"{stands['kind'].lower()}  (OEM {'timestamped' if timed else 'non-timestamped'})"
+        if timed:
+            must["Manufactacturer ID"] = f"{int(stands['maker']):06x}"
+        return {**must, "OEM Defined": stands["bytes"].lower() + " " + said["OEM Defined"].partition(" ")[2]}
+    kept = 0xF3FF if "unit" in stands else 0xF0FF  # the line has neither reserved bits, nor the unit of software
+    generator = int(stands["channel"], 16) << 12 | int(stands.get("unit", "0"), 16) << 8 | int(stands["address"], 16) << 1 | (stands["by"] == "sw")
+    same(int(said["Generator ID"], 16) & kept, generator)
+    same(data_text(*bytes.fromhex(said["Event Data"])), stands["data"])
+    return {**must, "Record Type": "02", "EvM Revision": stands["revision"].lower(), "Sensor Type": sensors.get(int(stands["sensor"], 16), "Unknown"),
+            "Sensor Number": stands["number"].lower(), "Event Type": EVENT_TYPES.get(int(stands["type"], 16), "Reserved"),
+            "Event Direction": "Deassertion Event" if stands["direction"] == "deassert" else "Assertion Event"}
+
+
+@test
+def ipmitool_says_the_same_of_each_field():
+    it = simulator()
+    sensors = {int(code, 16): name for name, code in re.findall(r"(\S+(?: \S+)*) +\((0x\w\w)\)", it.ipmitool("sdr", "type", "list"))}
+    told = [*said_by_ipmitool(it)]
+    same(len(told), len(it.records))
+    for line, said in zip(it.lines, told):
+        must = in_words_of_ipmitool(line, sensors, said)
+        same({"line": line, **{name: said.get(name) for name in must}}, {"line": line, **must})
+
+
+def bare(words):
+    """Without case and punctuation."""
+    return re.sub(r"[^a-z0-9]", "", words.lower())
+
+
+@test
+def freeipmi_has_the_same_event_texts():
+    it = simulator()
+    options = ["-D", "LAN", "-h", f"127.0.0.1:{it.port}", "-u", "tester", "-p", "secret", "-l", "ADMIN"]
+    told = it.run("ipmi-sel", *options, "--ignore-sdr-cache", "-vv", "--comma-separated-output")
+    expect(told.returncode == 0, told.stderr)
+    rows = {int(row[0]): row for row in (line.split(",", 6) for line in told.stdout.splitlines()) if row[0].isdecimal()}
+    other = dict((words[:7], words[8:]) for words in FREEIPMI_HAS_OTHER_WORDS)
+    for line, (_, _, record) in [*zip(it.lines, it.slots)][it.events]:
+        stands, row, key = fields_of(line), rows[number(record[:2])], f"{record[12]:02X} {record[10]:02X} {record[13]:X}"
+        same(row[5], "Assertion Event")
+        expect(row[3].startswith(f"Sensor #{int(stands['number'], 16)} "), row)
+        if key in other:
+            same((key, row[6]), (key, other.pop(key)))
+        else:
+            same((key, bare("" if row[6].startswith("Event Offset =") else row[6])), (key, bare(stands["event"])))
+    same(other, {})
+
+
+@test
+def raw_files_of_ipmitool():
+    it = simulator()
+    written = it.path / "written"
+    it.ipmitool("sel", "writeraw", str(written))
+    same(made_from("raw", data=written.read_bytes()), (0, it.file.read_text(), ""))
+    same(convert("to-raw", it.file), (0, written.read_bytes(), ""))
+    same(it.ipmitool("sel", "readraw", str(written)), it.ipmitool("sel", "list"))
+
+
+@test
+def another_interface():
+    it = simulator()
+    begun = it.path / "begun.txt"
+    begun.write_text(text_of(it.slots[:-5]))
+    said = it.run(CAPTURE, "live", begun, "-I", "lanplus", "-C", "3", *it.user)
+    same((said.returncode, begun.read_text()), (0, text_of(it.slots)))
+
+
+@test
+def a_controller_that_does_not_answer():
+    it = simulator()
+    begun = it.path / "begun.txt"
+    begun.write_text(text_of(it.slots[:-2]))
+    it.process.send_signal(signal.SIGSTOP)
+    try:
+        said = it.run(CAPTURE, "live", begun, *it.options, "-N", "1", "-R", "1")
+    finally:
+        it.process.send_signal(signal.SIGCONT)
+    same((said.returncode, begun.read_text()), (1, text_of(it.slots[:-2])))
+    expect(f"no answer for {it.slots[-2][0]:04X}h: " in said.stderr, said.stderr)
+    same((it.run(CAPTURE, "live", begun, *it.options).returncode, begun.read_text()), (0, text_of(it.slots)))
+
+
+@test
+def a_wrong_password():
+    it = simulator()
+    said = it.run(CAPTURE, "live", it.path / "none.txt", "-I", "lan", *it.user[:-1], "wrong", "-N", "1", "-R", "1")
+    same((said.returncode, (it.path / "none.txt").read_text()), (1, ""))
+    expect("no answer for 0000h: " in said.stderr and "wrong" not in said.stderr, said.stderr)
+
+
+# ---- a log that is not whole, over the network: what ipmitool and FreeIPMI do themselves
+
+
+class Proxy:
+    """Stands before the simulated controller and changes its answer for record 0005h. The session has no authentication, so that it can."""
+
+    def __init__(self, it, change):
+        self.change, self.controller = change, ("127.0.0.1", it.port)
+        self.front, self.back = (socket.socket(socket.AF_INET, socket.SOCK_DGRAM) for _ in range(2))
+        self.front.bind(("127.0.0.1", 0))
+        port = str(self.front.getsockname()[1])
+        self.ipmitool = ["-I", "lan", "-A", "NONE", "-H", "127.0.0.1", "-p", port, "-U", "tester", "-P", "secret"]
+        self.freeipmi = ["-D", "LAN", "--authentication-type=NONE", "-h", f"127.0.0.1:{port}", "-u", "tester", "-p", "secret", "-l", "ADMIN"]
+
+    def __enter__(self):
+        self.closing, self.closed = socket.socketpair()
+        self.thread = threading.Thread(target=self.serve)
+        self.thread.start()
+        return self
+
+    def __exit__(self, *_):
+        self.closing.close()
+        self.thread.join()
+        for end in (self.front, self.back, self.closed):
+            end.close()
+
+    def serve(self):
+        client = None
+        while True:
+            for end in select.select([self.front, self.back, self.closed], [], [])[0]:
+                if end is self.closed:
+                    return
+                packet, sender = end.recvfrom(1024)
+                if end is self.front:
+                    client = sender
+                    self.back.sendto(packet, self.controller)
+                else:
+                    self.front.sendto(self.changed(packet), client)
+
+    def changed(self, packet):
+        """After 13 bytes of headers comes the length of the message: six bytes, completion code, data, checksum."""
+        message = packet[14:]
+        if (*message[1:2], *message[5:7], *message[9:11]) != (0x0B << 2, 0x43, 0x00, 0x05, 0x00):
+            return packet
+        message = message[:6] + self.change(message[6:-1])
+        return packet[:13] + bytes([len(message) + 1]) + message + bytes([-sum(message[3:]) & 0xFF])
+
+
+BROKEN = {  # how a log is broken at record 0005h, and what tools/capture must make of it: status, words, verdict
+    "circle": (lambda answer: answer[:1] + b"\x02\x00" + answer[3:], 0, "circle: 0002h is named as next", "walk=circle read=5"),
+    "missing": (lambda answer: b"\xcb", 0, "missing: no record 0005h", "walk=missing ask=0005 read=4"),
+    "short": (lambda answer: answer[:11], 1, "the answer for 0005h is short: 10 bytes of 18", "walk=missing ask=0005 read=4"),
+}
+
+
+@test
+def a_log_that_is_not_whole_over_the_network():
+    it = simulator()
+    for name, (change, status, words, verdict) in BROKEN.items():
+        file = it.path / f"{name}.txt"
+        with Proxy(it, change) as proxy:
+            said = it.run(CAPTURE, "live", file, *proxy.ipmitool)
+        same((name, said.returncode, printed_for(file.read_text())[-1]), (name, status, verdict))
+        expect(words in said.stderr, said.stderr)
+
+
+@test
+def other_tools_on_a_log_that_is_not_whole():
+    """As docs/DIFFERENCES.md has it. A circle has no end for either: they are stopped after five seconds."""
+    it, listed = simulator(), {}
+    for name, (change, *_) in BROKEN.items():
+        with Proxy(it, change) as proxy:
+            for tool, command in (("ipmitool", ["ipmitool", *proxy.ipmitool, "sel", "list"]),
+                                  ("freeipmi", ["ipmi-sel", *proxy.freeipmi, "--ignore-sdr-cache", "--no-header-output"])):
+                said = it.run("timeout", "5", *command)
+                listed[tool, name] = said.returncode, said.stdout.splitlines()
+    for tool in ("ipmitool", "freeipmi"):
+        status, lines = listed[tool, "circle"]
+        expect(status == 124 and len(lines) > 100, tool, status, len(lines))
+    same([(status, len(lines)) for status, lines in (listed["ipmitool", "missing"], listed["freeipmi", "missing"])], [(0, 4), (1, 4)])
+    same(listed["ipmitool", "short"][1][4].split(" | ")[-3:], ["reserved", "", "Asserted"])
+    same([line.split(" | ")[0].strip() for line in listed["freeipmi", "short"][1][3:5]], ["4", "6"])
+
+
+# ---- what ipmitool does, on this machine alone: the commands of docs/GUIDE.md
+
+
+def beside(capture, *command, short=()):
+    """A command beside a controller that answers as the capture of examples/ says."""
+    return subprocess.run([ROOT / "tools/controller", *short, ROOT / "examples" / capture, *command], stdin=subprocess.DEVNULL, stdout=subprocess.PIPE, stderr=subprocess.PIPE,
+                          encoding="latin-1", timeout=SECONDS)
+
+
+def captured(capture, short=()):
+    with tempfile.TemporaryDirectory() as folder:
+        file = pathlib.Path(folder, "capture.txt")
+        said = beside(capture, CAPTURE, "live", file, "-I", "dummy", short=short)
+        return said.returncode, said.stderr, printed_for(file.read_text())[-1]
+
+
+@test
+def a_circle_with_ipmitool():
+    """ipmitool lists the same records again and again, until it is ended."""
+    status, said, verdict = captured("circle.txt")
+    same((status, verdict), (0, "walk=circle read=5"))
+    said = beside("circle.txt", "timeout", "2", "ipmitool", "-I", "dummy", "sel", "list")
+    expect(said.returncode == 124 and len(said.stdout.splitlines()) > 100, said.returncode, len(said.stdout.splitlines()))
+
+
+@test
+def a_missing_record_with_ipmitool():
+    """ipmitool lists what comes before it, and ends with status 0."""
+    status, said, verdict = captured("missing.txt")
+    same((status, verdict), (0, "walk=missing ask=001D read=3"))
+    said = beside("missing.txt", "ipmitool", "-I", "dummy", "sel", "list")
+    same((said.returncode, len(said.stdout.splitlines())), (0, 3))
+
+
+@test
+def a_short_answer_with_ipmitool():
+    """Through this interface ipmitool fills it up with the end of the answer before, and lists that: here a deassertion as an assertion."""
+    short = ["--short", "001D=10"]
+    status, said, verdict = captured("circle.txt", short=short)
+    same((status, verdict), (1, "walk=missing ask=001D read=3"))
+    expect("the answer for 001Dh is short: 10 bytes of 18" in said, said)
+    whole, cut = (beside("circle.txt", "timeout", "2", "ipmitool", "-I", "dummy", "sel", "list", short=words).stdout.splitlines()[3] for words in ([], short))
+    same((whole.split(" | ")[0].strip(), whole.split(" | ")[-1], cut), ("1d", "Deasserted", whole.replace("Deasserted", "Asserted")))

@@ -8,8 +8,6 @@ ROOT = pathlib.Path(__file__).resolve().parent.parent.parent
 CAPTURE = ROOT / "tools/capture"
 SECONDS = 120  # for one run
 RECORD = bytes.fromhex("010002E8030000200004013001595A55")  # that of the case in docs/SCOPE.md
-
-
 TESTS = []
 
 

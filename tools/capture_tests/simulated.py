@@ -34,40 +34,41 @@ sel_enable 0x20 3000 0x0a
 mc_enable 0x20
 """
 SUMMER = 0x6A4F2AD3  # a time in July 2026
-FREEIPMI_HAS_OTHER_WORDS = """
-6F 05 5 Unauthorized dock
-6F 07 B Machine Check Exception
-6F 0C 0 Correctable memory error
-6F 0C 1 Uncorrectable memory error
-6F 0C 5 Correctable memory error logging limit reached
-6F 12 5 Timestamp Clock Synch
-6F 19 1 Event Offset = 01h (Event Type Code = 6Fh)
-6F 1B 0 Cable/Interconnect is connected
-6F 1B 1 Configuration Error - Incorrect cable connected
-6F 20 0 Critical stop during OS load
-6F 21 0 Fault Status asserted
-6F 21 1 Identify Status asserted
-6F 21 2 Slot/Connector Device installed/attached
-6F 21 3 Slot/Connector Ready for Device Installation
-6F 21 4 Slot/Connector Ready for Device Removal
-6F 21 5 Slot Power is Off
-6F 21 6 Slot/Connector Device Removal Request
-6F 21 7 Interlock asserted
-6F 21 8 Slot is Disabled
-6F 21 9 Slot holds spare device
-6F 22 0 S0/G0
-6F 22 1 S1
-6F 22 2 S2
-6F 22 3 S3
-6F 22 4 S4
-6F 22 5 S5/G2
-6F 22 6 S4/S5 soft-off
-6F 22 D Unspecified
-6F 23 4 reserved
-6F 23 5 reserved
-6F 23 6 reserved
-6F 23 7 reserved
-6F 24 3 platform generated SNMP trap, OEM format
+# Event type, sensor type and offset; the words of the original Rust; the words of FreeIPMI.
+OTHER_WORDS = """
+6F 05 5|Unauthorized dock/undock|Unauthorized dock
+6F 07 B|Machine Check Exception (Uncorrectable)|Machine Check Exception
+6F 0C 0|Correctable ECC / other correctable memory error|Correctable memory error
+6F 0C 1|Uncorrectable ECC / other uncorrectable memory error|Uncorrectable memory error
+6F 0C 5|Correctable ECC / other correctable memory error logging limit reached|Correctable memory error logging limit reached
+6F 12 5|Timestamp Clock Sync|Timestamp Clock Synch
+6F 19 1|Thermal Trip|Event Offset = 01h (Event Type Code = 6Fh)
+6F 1B 0||Cable/Interconnect is connected
+6F 1B 1||Configuration Error - Incorrect cable connected
+6F 20 0|Critical stop during OS load / initialization|Critical stop during OS load
+6F 21 0||Fault Status asserted
+6F 21 1||Identify Status asserted
+6F 21 2||Slot/Connector Device installed/attached
+6F 21 3||Slot/Connector Ready for Device Installation
+6F 21 4||Slot/Connector Ready for Device Removal
+6F 21 5||Slot Power is Off
+6F 21 6||Slot/Connector Device Removal Request
+6F 21 7||Interlock asserted
+6F 21 8||Slot is Disabled
+6F 21 9||Slot holds spare device
+6F 22 0|S0 / G0 'working'|S0/G0
+6F 22 1|S1 'sleeping with system h/w & processor context maintained'|S1
+6F 22 2|S2 'sleeping, processor context lost'|S2
+6F 22 3|S3 'sleeping, processor & h/w context lost, memory retained'|S3
+6F 22 4|S4 'non-volatile sleep / suspend-to-disk'|S4
+6F 22 5|S5 / G2 'soft-off'|S5/G2
+6F 22 6|S4 / S5 soft-off, particular S4 / S5 state cannot be determined|S4/S5 soft-off
+6F 22 D||Unspecified
+6F 23 4||reserved
+6F 23 5||reserved
+6F 23 6||reserved
+6F 23 7||reserved
+6F 24 3|platform generated SNMP trap|platform generated SNMP trap, OEM format
 """.strip().splitlines()
 
 
@@ -259,8 +260,10 @@ def in_words_of_ipmitool(line, sensors, said):
         moment = 0 if moment == "Unknown" else int(moment)
         shown = datetime.datetime.fromtimestamp(moment, datetime.timezone.utc)
         must["Date"], must["Time"] = ("Pre-Init", f"{moment:010}") if moment < 0x20000000 else (f"{shown:%m/%d/%y}", f"{shown:%H:%M:%S} UTC")
-    if "refused" in stands:
-        return {**must, "Record Type": stands["value"].lower()} if stands["refused"] == "2" else {**must, "Record Type": "02", "Generator ID": stands["value"][1].lower() + said["Generator ID"][1:]}
+    if stands.get("refused") == "2":
+        return {**must, "Record Type": stands["value"].lower()}
+    if stands.get("refused") == "3":
+        return {**must, "Record Type": "02", "Generator ID": stands["value"][1].lower() + said["Generator ID"][1:]}
     if "kind" in stands:
         timed = "maker" in stands
         must["Record Type"] = f"{stands['kind'].lower()}  (OEM {'timestamped' if timed else 'non-timestamped'})"
@@ -299,13 +302,13 @@ def freeipmi_has_the_same_event_texts():
     told = it.run("ipmi-sel", *options, "--ignore-sdr-cache", "-vv", "--comma-separated-output")
     expect(told.returncode == 0, told.stderr)
     rows = {int(row[0]): row for row in (line.split(",", 6) for line in told.stdout.splitlines()) if row[0].isdecimal()}
-    other = dict((words[:7], words[8:]) for words in FREEIPMI_HAS_OTHER_WORDS)
+    other = {key: (mine, theirs) for key, mine, theirs in (row.split("|") for row in OTHER_WORDS)}
     for line, (_, _, record) in [*zip(it.lines, it.slots)][it.events]:
         stands, row, key = fields_of(line), rows[number(record[:2])], f"{record[12]:02X} {record[10]:02X} {record[13]:X}"
         same(row[5], "Assertion Event")
         expect(row[3].startswith(f"Sensor #{int(stands['number'], 16)} "), row)
         if key in other:
-            same((key, row[6]), (key, other.pop(key)))
+            same((key, (stands["event"], row[6])), (key, other.pop(key)))
         else:
             same((key, bare("" if row[6].startswith("Event Offset =") else row[6])), (key, bare(stands["event"])))
     same(other, {})

@@ -1,1 +1,2 @@
+pub mod FilledGives
 pub mod Filling

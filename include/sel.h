@@ -28,6 +28,9 @@ typedef struct SelAnswer {
     size_t length;
 } SelAnswer;
 
+/* The most bytes that sel_entry, sel_get_entry and sel_allocation write, and sel_decode where it writes no text. */
+#define SEL_FLAT 24
+
 /* A record of the log, 16 bytes or more; those behind the sixteenth are not looked at. Writes, numbers in little-endian order:
  *   a system event (type 02h), 22 bytes: 00, id (2), time (4), 00 for an address or 01 for a software id, that, channel, unit (00 for a software
  *     id), revision 00 for 2.0, 01 for 1.0, 02 for another, the revision's byte, sensor type, sensor number, 00 assert or 01 deassert, event
@@ -61,16 +64,19 @@ SelAnswer sel_allocation(const uint8_t *data, size_t data_length, uint8_t *out, 
  *   t  a time (4): sel_time_text
  *   n  a record id (2): 1 unless it is 0000h or FFFFh, which name no record; 1 for 0000h, which asks for the first; 1 for FFFFh, the last; the id (2)
  *   q  a request: 40h, 41h or 42h; 47h, reservation (2), AAh or 00h; 43h, reservation (2), record id (2): sel_request
- * 255 for another number of bytes than d, v, x, t, n and q have, and for a request that is none of these. Texts have at most 70 bytes, all
- * others at most 24. */
+ * 255 for another number of bytes than d, v, x, t, n and q have, and for a request that is none of these. Texts have at most
+ * SEL_EVENT_TEXT (70) bytes, all others at most SEL_FLAT (24). */
 SelAnswer sel_decode(uint8_t kind, const uint8_t *data, size_t data_length, uint8_t *out, size_t out_length);
 
 /* What the length of an answer alone decides, before there is a byte of it: 1 exactly if sel_decode answers 1 for every answer of that length, which is
  * under 16 for e, under 18 for g, any but 14 for i, under 9 for a, under 2 for r, and 0 for c; else 0. 255 for any other letter. */
-uint32_t sel_length(uint8_t kind, size_t length);
+uint32_t sel_length(uint8_t kind, size_t len);
 
-/* Writes the text of an event, of at most 70 bytes, ASCII, without a NUL. Of the event type bit 7 does not count, of the offset bits 7 to 4.
- * An event that has no text is accepted with length 0. 4 where out is shorter than the text. */
+/* The longest text of an event. */
+#define SEL_EVENT_TEXT 70
+
+/* Writes the text of an event, of at most SEL_EVENT_TEXT (70) bytes, ASCII, without a NUL. Of the event type bit 7 does not count, of the offset
+ * bits 7 to 4. An event that has no text is accepted with length 0. 4 where out is shorter than the text. */
 SelAnswer sel_event_text(uint8_t event_type, uint8_t sensor_type, uint8_t offset, uint8_t *out, size_t out_length);
 
 /* What sel_texts fills: bytes, and places of each of its two tables. */
@@ -84,19 +90,28 @@ SelAnswer sel_texts(uint8_t *store, size_t store_length, uint16_t *starts, size_
 /* Writes the text of an event out of a lent store. With the first SEL_STORE and SEL_PLACES elements of what sel_texts filled it does what
  * sel_event_text does. Whatever else is lent: with p = 16 * class + offset it writes the bytes of the store from starts[p] on, lengths[p] of them,
  * as far as they are there, where a place that is not there counts as 0. The classes are the rows of table 42-2, 0 to 11, and of table 42-3, 12 to 39;
- * 40 is no class, and looks at the places from 640 on: so lend it no more places than sel_texts fills. */
+ * 40 is no class, and looks at the places from SEL_PLACES (640) on: so lend it no more places than sel_texts fills. */
 SelAnswer sel_event_text_from(const uint8_t *store, size_t store_length, const uint16_t *starts, size_t starts_length,
                               const uint8_t *lengths, size_t lengths_length,
                               uint8_t event_type, uint8_t sensor_type, uint8_t offset, uint8_t *out, size_t out_length);
 
-/* Writes the text of event data, bytes 13 to 15 of a system event, of at most 26 bytes, as `reading=90, threshold=85` or `oem2=0x17`; empty
- * where neither byte is specified. 4 where out is shorter. */
+/* The longest text of event data. */
+#define SEL_DATA_TEXT 26
+
+/* Writes the text of event data, bytes 13 to 15 of a system event, of at most SEL_DATA_TEXT (26) bytes, as `reading=90, threshold=85` or
+ * `oem2=0x17`; empty where neither byte is specified. 4 where out is shorter. */
 SelAnswer sel_data_text(uint8_t b1, uint8_t b2, uint8_t b3, uint8_t *out, size_t out_length);
 
-/* Writes a time, at most 10 bytes: `Unknown` for 0, else in decimal. 4 where out is shorter. */
+/* The longest text of a time. */
+#define SEL_TIME_TEXT 10
+
+/* Writes a time, at most SEL_TIME_TEXT (10) bytes: `Unknown` for 0, else in decimal. 4 where out is shorter. */
 SelAnswer sel_time_text(uint32_t time, uint8_t *out, size_t out_length);
 
-/* Writes the payload of a request. A reservation of 0 is none.
+/* The longest payload of a request. */
+#define SEL_REQUEST 6
+
+/* Writes the payload of a request, of at most SEL_REQUEST (6) bytes. A reservation of 0 is none.
  *   40h Get SEL Info, 41h Get SEL Allocation Info, 42h Reserve SEL: length 0; reservation and argument are not looked at
  *   43h Get SEL Entry: reservation (2), the argument as record id (2), 00h, FFh
  *   47h Clear SEL: reservation (2), `CLR`, AAh; the argument is 00AAh to erase, or 0000h to ask for the status, and then the last byte is 00h

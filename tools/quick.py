@@ -4,6 +4,9 @@ import subprocess
 import sys
 from pathlib import Path
 
+sys.dont_write_bytecode = True
+from signatures import signature_faults
+
 # What the type of data is made of, beside the types that the code declares and records of data.
 DATA = {'ℕ', 'Bool', 'List', 'String', 'Type', '→', '×'}
 
@@ -247,6 +250,7 @@ def faults(root):
         yield from file_faults(root, c)
     yield from (f'docs/STATEMENTS.md:{n}: {x} is listed, and has no requires' for x, n in listed(root).items() if x not in met)
     yield from unproved_claims(root)
+    yield from signature_faults(root)
     said = subprocess.run(['rt', 'fmt', '--check'], cwd=root, capture_output=True, text=True)
     if said.returncode:
         yield 'rt fmt --check: ' + (said.stdout + said.stderr).strip().replace(f'{root}/', '')

@@ -70,6 +70,157 @@ PLANTED = [
 ]
 
 
+# A tree that exports a struct and two functions to C, with its sizes.
+ABI, HEADER, RUST = 'crates/abi/src/lib.rt', 'include/sel.h', 'rust/ipmi-sel/src/'
+FFI = RUST + 'ffi.rs'
+ROOMS = {
+    'lent_texts/specs/Fills': ['storeRoom = 7'],
+    'event_offset/specs/Places': ['places = 6'],
+    'event_offset/specs/Event': ['eventRoom = 5'],
+    'event_data/specs/DataText': ['dataRoom = 4'],
+    'storage/specs/Time': ['timeRoom = 3'],
+    'abi/specs/Sizes': ['flatRoom = 2', 'requestRoom = 1'],
+}
+EXPORTS = {
+    **GOOD,
+    **{f'crates/{file}.antt': '\n\n'.join(f'abbrev pub {x.split()[0]} : ℕ\n{x}' for x in lines) + '\n' for file, lines in ROOMS.items()},
+    'crates.txt': 'a:\nabi:\nlent_texts:\nevent_offset:\nevent_data:\nstorage:\n',
+    PAGE: ROWS + ROWS.replace('## a', '## abi').replace('`clear`', '`sel_text`, `sel_length`'),
+    ABI: '''// Answers.
+#[repr(C)]
+pub struct SelAnswer {
+    pub number: u32,
+    pub value: u32,
+    pub length: usize,
+}
+
+#[no_mangle]
+pub extern "C" fn sel_text<'a>(
+    starts: &'a [u16],
+    event_type: u8,
+    sensor_type: u8,
+    id: u16,
+    out: &mut [u8],
+) -> SelAnswer
+    ensures { λ r. ⌜ now (out .exit) ≡ now (out .entry) ⌝ }
+{
+    text(starts, event_type, sensor_type, id, out)
+}
+
+#[no_mangle]
+pub extern "C" fn sel_length(kind: u8, len: usize) -> u32
+    ensures { λ r. ⌜ r ≡ 0 ⌝ }
+{
+    0
+}
+''',
+    HEADER: '''/* Answers. */
+#ifndef SEL_H
+#define SEL_H
+
+#include <stdint.h>
+
+#ifdef __cplusplus
+extern "C" {
+#endif
+
+typedef struct SelAnswer {
+    uint32_t number;
+    uint32_t value;
+    size_t length;
+} SelAnswer;
+
+#define SEL_STORE 7
+#define SEL_PLACES 6
+#define SEL_EVENT_TEXT 5
+#define SEL_DATA_TEXT 4
+#define SEL_TIME_TEXT 3
+#define SEL_FLAT 2
+#define SEL_REQUEST 1
+
+/* At most SEL_EVENT_TEXT (5) bytes. */
+SelAnswer sel_text(const uint16_t *starts, size_t starts_length,
+                   uint8_t event_type, uint8_t sensor_type, uint16_t id, uint8_t *out, size_t out_length);
+
+uint32_t sel_length(uint8_t kind, size_t len);
+
+#ifdef __cplusplus
+}
+#endif
+
+#endif
+''',
+    FFI: '''#[repr(C)]
+pub(crate) struct Answer {
+    pub number: u32,
+    pub value: u32,
+    pub length: usize,
+}
+
+mod library {
+    use super::Answer;
+
+    extern "C" {
+        pub fn sel_text(
+            starts: *const u16,
+            starts_length: usize,
+            event_type: u8,
+            sensor_type: u8,
+            id: u16,
+            out: *mut u8,
+            out_length: usize,
+        ) -> Answer;
+        pub fn sel_length(kind: u8, len: usize) -> u32;
+    }
+}
+
+pub(crate) fn text(starts: &[u16], [event_type, sensor_type]: [u8; 2], id: u16, out: &mut [u8]) -> Answer {
+    unsafe { library::sel_text(starts.as_ptr(), starts.len(), event_type, sensor_type, id, out.as_mut_ptr(), out.len()) }
+}
+''',
+    RUST + 'text.rs': ''.join(f'const {x}: usize = {n};\n' for x, n in zip(('STORE', 'PLACES', 'EVENT_ROOM', 'DATA_ROOM', 'TIME_ROOM'), '76543')),
+    RUST + 'flat.rs': '/// The most bytes.\nconst MOST: usize = 2;\n',
+    RUST + 'request.rs': 'const MOST: usize = 1;\n',
+}
+# What is planted there: a file, its words, others for them, and a word of what is then said.
+CHANGED = [
+    (HEADER, 'uint8_t event_type, uint8_t sensor_type', 'uint8_t sensor_type, uint8_t event_type', 'include/sel.h: SelAnswer sel_text('),
+    (HEADER, 'uint16_t id', 'uint32_t id', 'include/sel.h: SelAnswer sel_text('),
+    (HEADER, 'const uint16_t', 'uint16_t', 'include/sel.h: SelAnswer sel_text('),
+    (HEADER, 'size_t out_length', 'size_t out_length, uint8_t more', 'include/sel.h: SelAnswer sel_text('),
+    (HEADER, 'uint32_t sel_length', 'size_t sel_length', 'include/sel.h: size_t sel_length('),
+    (HEADER, 'uint32_t sel_length(uint8_t kind, size_t len);', '', 'include/sel.h leaves out sel_length'),
+    (HEADER, 'uint32_t sel_length(uint8_t kind, size_t len);', '/* uint32_t sel_length(uint8_t kind, size_t len); */', 'include/sel.h leaves out sel_length'),
+    (HEADER, 'uint32_t sel_length', 'uint32_t sel_more(uint8_t kind);\nuint32_t sel_length', 'include/sel.h: sel_more is not exported'),
+    (HEADER, '    uint32_t number;\n    uint32_t value;', '    uint32_t value;\n    uint32_t number;', 'include/sel.h: typedef struct SelAnswer{'),
+    (HEADER, 'uint32_t sel_length', '#if 0\nuint32_t sel_length', 'include/sel.h cannot be read'),
+    (HEADER, '#define SEL_H\n', '#define SEL_H\n#define uint8_t int\n', 'include/sel.h cannot be read'),
+    (HEADER, 'SEL_DATA_TEXT 4', 'SEL_DATA_TEXT 5', 'SEL_DATA_TEXT is 5, and dataRoom is 4'),
+    (HEADER, '#define SEL_FLAT 2\n', '', 'SEL_FLAT is no number'),
+    (HEADER, '#define SEL_FLAT', '#define SEL_MORE 2\n#define SEL_FLAT', 'include/sel.h cannot be read'),
+    (HEADER, 'SEL_EVENT_TEXT (5)', 'SEL_EVENT_TEXT (6)', 'a comment says SEL_EVENT_TEXT (6)'),
+    (FFI, 'event_type: u8,\n            sensor_type: u8', 'sensor_type: u8,\n            event_type: u8', 'ffi.rs: pub fn sel_text('),
+    (FFI, 'id: u16,\n ', 'id: u32,\n ', 'ffi.rs: pub fn sel_text('),
+    (FFI, '*mut u8', '*const u8', 'ffi.rs: pub fn sel_text('),
+    (FFI, 'len: usize) -> u32', 'len: usize) -> usize', 'ffi.rs: pub fn sel_length('),
+    (FFI, 'pub fn sel_length', 'pub fn sel_more', 'ffi.rs: sel_more is not exported'),
+    (FFI, 'pub fn sel_length', '#[link_name = "sel_text"]\n        pub fn sel_length', 'ffi.rs cannot be read'),
+    (FFI, 'starts.len(), event_type, sensor_type', 'starts.len(), sensor_type, event_type', 'ffi.rs: library::sel_text('),
+    (FFI, 'out.len()', 'starts.len()', 'ffi.rs: library::sel_text('),
+    (FFI, '    pub number: u32,\n    pub value: u32,', '    pub value: u32,\n    pub number: u32,', 'ffi.rs: #[repr(C)]pub(crate)struct Answer{'),
+    (FFI, '#[repr(C)]\n', '', 'ffi.rs: pub(crate)struct Answer{'),
+    (FFI, 'extern "C"', 'extern "system"', 'ffi.rs cannot be read'),
+    (RUST + 'text.rs', 'TIME_ROOM: usize = 3', 'TIME_ROOM: usize = 33', 'text.rs: TIME_ROOM is 33, and timeRoom is 3'),
+    (RUST + 'flat.rs', '= 2', '= 3', 'flat.rs: MOST is 3, and flatRoom is 2'),
+    (RUST + 'request.rs', 'const', '// const', 'request.rs: MOST is no number'),
+    ('crates/storage/specs/Time.antt', 'timeRoom = 3', 'timeRoom = 1 + 2', 'Time.antt: no line timeRoom = a number'),
+    (ABI, '#[no_mangle]\n', '', 'crates/abi/src cannot be read: 0 functions'),
+    (ABI, '#[no_mangle]\npub extern "C" fn sel_length', '#[no_mangle]\npub fn sel_length', 'crates/abi/src cannot be read: 1 functions'),
+    (ABI, 'len: usize', 'len: u64', 'cannot be read: parameter len:u64'),
+    (ABI, 'len: usize) -> u32', 'len: usize) -> u8', 'include/sel.h: uint32_t sel_length('),
+]
+
+
 def tried(tree):
     with tempfile.TemporaryDirectory() as d:
         for name, text in tree.items():
@@ -93,10 +244,18 @@ PASSES = [
     {SPEC: GOOD[SPEC] + '\npub record Pair : Type 0 where\n  pub first : Data\n  pub rest : List Data\n'},
 ]
 bad += [f'tree {n} without fault: {x}' for n, tree in enumerate(PASSES, 1) for x in tried({**GOOD, **tree})]
+# The tree that exports to C, and the same where ffi.rs leaves a function out, and with other spaces and comments in the header.
+WITHOUT = EXPORTS[FFI].replace('        pub fn sel_length(kind: u8, len: usize) -> u32;\n', '')
+SPACED = EXPORTS[HEADER].replace('uint16_t *starts, ', 'uint16_t* starts , ').replace('SEL_FLAT 2', 'SEL_FLAT 2 /* more(x); */')
+bad += [f'exports without fault: {x}' for tree in ({}, {FFI: WITHOUT}, {HEADER: SPACED}) for x in tried({**EXPORTS, **tree})]
 for change, word in PLANTED:
     said = tried({**GOOD, **change})
     if not any(word in x for x in said):
         bad.append(f'planted, and not found: {word} (said: {said})')
+for file, old, new, word in CHANGED:
+    said = tried({**EXPORTS, file: EXPORTS[file].replace(old, new)})
+    if old not in EXPORTS[file] or not any(word in x for x in said):
+        bad.append(f'planted in {file}, and not found: {word} (said: {said})')
 # The samples of seldump, on a command that prints what it reads, must differ.
 samples = subprocess.run([sys.executable, Path(__file__).with_name('samples.py'), 'cat'], capture_output=True, text=True)
 if samples.returncode != 1 or 'samples: CR LF: line 1 must be' not in samples.stdout:

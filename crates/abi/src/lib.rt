@@ -101,24 +101,24 @@ pub extern "C" fn sel_decode(kind: u8, data: &[u8], out: &mut [u8]) -> SelAnswer
 
 // What the length of an answer decides, before there is a byte of it.
 #[no_mangle]
-pub extern "C" fn sel_length(kind: u8, length: usize) -> u32
-    ensures { λ r. ⌜ r ≡ lengthNumber kind length ⌝ }
+pub extern "C" fn sel_length(kind: u8, len: usize) -> u32
+    ensures { λ r. ⌜ r ≡ lengthNumber kind len ⌝ }
 {
     match kind {
-        b'e' => length_number(AnswerKind::Entry, length),
-        b'g' => length_number(AnswerKind::GetEntry, length),
-        b'i' => length_number(AnswerKind::Info, length),
-        b'a' => length_number(AnswerKind::Allocation, length),
-        b'r' => length_number(AnswerKind::Reserve, length),
-        b'c' => length_number(AnswerKind::Clear, length),
+        b'e' => length_number(AnswerKind::Entry, len),
+        b'g' => length_number(AnswerKind::GetEntry, len),
+        b'i' => length_number(AnswerKind::Info, len),
+        b'a' => length_number(AnswerKind::Allocation, len),
+        b'r' => length_number(AnswerKind::Reserve, len),
+        b'c' => length_number(AnswerKind::Clear, len),
         _ => NO_QUESTION,
     }
 }
 
-fn length_number(kind: AnswerKind, length: usize) -> u32
-    ensures { λ r. ⌜ r ≡ lengthHands kind length .number ⌝ }
+fn length_number(kind: AnswerKind, len: usize) -> u32
+    ensures { λ r. ⌜ r ≡ lengthHands kind len .number ⌝ }
 {
-    match sel_commands::length::length_answer(kind, length) {
+    match sel_commands::length::length_answer(kind, len) {
         LengthAnswer::MayBeRead => 0,
         LengthAnswer::NotEnoughData => 1,
     }

@@ -27,18 +27,18 @@ mod library {
     use super::{Answer, Found, Walk};
 
     extern "C" {
-        pub fn sel_entry(data: *const u8, length: usize, out: *mut u8, room: usize) -> Answer;
-        pub fn sel_get_entry(data: *const u8, length: usize, out: *mut u8, room: usize) -> Answer;
-        pub fn sel_allocation(data: *const u8, length: usize, out: *mut u8, room: usize) -> Answer;
-        pub fn sel_decode(kind: u8, data: *const u8, length: usize, out: *mut u8, room: usize) -> Answer;
-        pub fn sel_length(kind: u8, length: usize) -> u32;
+        pub fn sel_entry(data: *const u8, data_length: usize, out: *mut u8, out_length: usize) -> Answer;
+        pub fn sel_get_entry(data: *const u8, data_length: usize, out: *mut u8, out_length: usize) -> Answer;
+        pub fn sel_allocation(data: *const u8, data_length: usize, out: *mut u8, out_length: usize) -> Answer;
+        pub fn sel_decode(kind: u8, data: *const u8, data_length: usize, out: *mut u8, out_length: usize) -> Answer;
+        pub fn sel_length(kind: u8, len: usize) -> u32;
         pub fn sel_texts(
             store: *mut u8,
-            store_room: usize,
+            store_length: usize,
             starts: *mut u16,
-            starts_room: usize,
+            starts_length: usize,
             lengths: *mut u8,
-            lengths_room: usize,
+            lengths_length: usize,
         ) -> Answer;
         pub fn sel_event_text_from(
             store: *const u8,
@@ -51,15 +51,15 @@ mod library {
             sensor_type: u8,
             offset: u8,
             out: *mut u8,
-            room: usize,
+            out_length: usize,
         ) -> Answer;
-        pub fn sel_data_text(b1: u8, b2: u8, b3: u8, out: *mut u8, room: usize) -> Answer;
-        pub fn sel_time_text(time: u32, out: *mut u8, room: usize) -> Answer;
-        pub fn sel_request(command: u8, reservation: u16, argument: u16, out: *mut u8, room: usize) -> Answer;
+        pub fn sel_data_text(b1: u8, b2: u8, b3: u8, out: *mut u8, out_length: usize) -> Answer;
+        pub fn sel_time_text(time: u32, out: *mut u8, out_length: usize) -> Answer;
+        pub fn sel_request(command: u8, reservation: u16, argument: u16, out: *mut u8, out_length: usize) -> Answer;
         pub fn sel_channel(number: u8) -> Answer;
         pub fn sel_unit(number: u8) -> Answer;
-        pub fn sel_find(slots: *const u8, length: usize, id: u16) -> Found;
-        pub fn sel_walk(slots: *const u8, length: usize, budget: usize, list: *mut u16, places: usize) -> Walk;
+        pub fn sel_find(slots: *const u8, slots_length: usize, id: u16) -> Found;
+        pub fn sel_walk(slots: *const u8, slots_length: usize, budget: usize, list: *mut u16, list_length: usize) -> Walk;
     }
 }
 
@@ -82,13 +82,12 @@ pub(crate) fn decode(kind: u8, data: &[u8], out: &mut [u8]) -> Answer {
     unsafe { library::sel_decode(kind, data.as_ptr(), data.len(), out.as_mut_ptr(), out.len()) }
 }
 
-pub(crate) fn length(kind: u8, length: usize) -> u32 {
-    unsafe { library::sel_length(kind, length) }
+pub(crate) fn length(kind: u8, len: usize) -> u32 {
+    unsafe { library::sel_length(kind, len) }
 }
 
 pub(crate) fn texts(store: &mut [u8], starts: &mut [u16], lengths: &mut [u8]) -> Answer {
-    let (s, t, l) = (store.len(), starts.len(), lengths.len());
-    unsafe { library::sel_texts(store.as_mut_ptr(), s, starts.as_mut_ptr(), t, lengths.as_mut_ptr(), l) }
+    unsafe { library::sel_texts(store.as_mut_ptr(), store.len(), starts.as_mut_ptr(), starts.len(), lengths.as_mut_ptr(), lengths.len()) }
 }
 
 pub(crate) fn event_text_from(
@@ -96,10 +95,21 @@ pub(crate) fn event_text_from(
     [event_type, sensor_type, offset]: [u8; 3],
     out: &mut [u8],
 ) -> Answer {
-    let (s, t, l) = (store.len(), starts.len(), lengths.len());
-    let (store, starts, lengths) = (store.as_ptr(), starts.as_ptr(), lengths.as_ptr());
-    let (out, room) = (out.as_mut_ptr(), out.len());
-    unsafe { library::sel_event_text_from(store, s, starts, t, lengths, l, event_type, sensor_type, offset, out, room) }
+    unsafe {
+        library::sel_event_text_from(
+            store.as_ptr(),
+            store.len(),
+            starts.as_ptr(),
+            starts.len(),
+            lengths.as_ptr(),
+            lengths.len(),
+            event_type,
+            sensor_type,
+            offset,
+            out.as_mut_ptr(),
+            out.len(),
+        )
+    }
 }
 
 pub(crate) fn data_text([b1, b2, b3]: [u8; 3], out: &mut [u8]) -> Answer {

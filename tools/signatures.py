@@ -1,0 +1,131 @@
+"""What crates/abi exports to C: include/sel.h and rust/ipmi-sel/src/ffi.rs declare that, name by name and type by type, and their sizes are those of the definitions."""
+import re
+
+ABI, HEADER, RUST = 'crates/abi/src', 'include/sel.h', 'rust/ipmi-sel/src'
+C = {'u8': 'uint8_t', 'u16': 'uint16_t', 'u32': 'uint32_t', 'usize': 'size_t'}
+# The header's macro; file and name of the constant in Rust; file and name of the definition.
+SIZES = [
+    ('SEL_STORE', 'text.rs', 'STORE', 'crates/lent_texts/specs/Fills.antt', 'storeRoom'),
+    ('SEL_PLACES', 'text.rs', 'PLACES', 'crates/event_offset/specs/Places.antt', 'places'),
+    ('SEL_EVENT_TEXT', 'text.rs', 'EVENT_ROOM', 'crates/event_offset/specs/Event.antt', 'eventRoom'),
+    ('SEL_DATA_TEXT', 'text.rs', 'DATA_ROOM', 'crates/event_data/specs/DataText.antt', 'dataRoom'),
+    ('SEL_TIME_TEXT', 'text.rs', 'TIME_ROOM', 'crates/storage/specs/Time.antt', 'timeRoom'),
+    ('SEL_FLAT', 'flat.rs', 'MOST', 'crates/abi/specs/Sizes.antt', 'flatRoom'),
+    ('SEL_REQUEST', 'request.rs', 'MOST', 'crates/abi/specs/Sizes.antt', 'requestRoom'),
+]
+
+
+def bare(path):
+    """A file of Rattle, C or Rust without comments."""
+    return re.sub(r'(?s)//[^\n]*|/\*.*?\*/', ' ', path.read_text())
+
+
+def tight(text):
+    """The text with no space but between two words, and with no last comma."""
+    return re.sub(r',([)}])', r'\1', re.sub(r'\s*([^\w\s])\s*', r'\1', ' '.join(text.split())))
+
+
+def read(shape, text, file):
+    """Every match of the shape, of which the text must be made."""
+    left = re.sub(shape, '', text)
+    if left or not text:
+        raise ValueError(f'{file} cannot be read: {left[:80] or "nothing is declared"}')
+    return [m.groups() for m in re.finditer(shape, text)]
+
+
+def parameter(text):
+    """A parameter in C, in Rust, and as Rust hands it over; a slice is a pointer and a length."""
+    m = re.fullmatch(r"(\w+):(?:&(?:'\w+ ?)?(mut)?\[(u8|u16)\]|(u8|u16|u32|usize))", text)
+    if not m:
+        raise ValueError(f'{ABI} cannot be read: parameter {text}')
+    name, mut, item, kind = m.groups()
+    if kind:
+        return f'{C[kind]} {name}', f'{name}:{kind}', name
+    return (f'{"" if mut else "const "}{C[item]}*{name},size_t {name}_length', f'{name}:*{mut or "const"} {item},{name}_length:usize',
+            f'{name}.as_{"mut_" if mut else ""}ptr(),{name}.len()')
+
+
+def exported(root):
+    """{name: declaration} in the header, of the structs in ffi.rs and of its functions, and {name: call} in ffi.rs, as they must be."""
+    code = ''.join(tight(bare(f)) for f in sorted((root / ABI).rglob('*.rt')))
+    structs = re.findall(r'#\[repr\(C\)\]pub struct (\w+)\{([^{}]*)\}', code)
+    functions = re.findall(r'#\[no_mangle\]pub extern"C"fn (\w+)(?:<[^>]*>)?\(([^()]*)\)->(\w+)', code)
+    if not functions or (len(functions), len(structs)) != (code.count('no_mangle'), code.count('repr(')):
+        raise ValueError(f'{ABI} cannot be read: {len(functions)} functions and {len(structs)} structs of those marked')
+    header, rust_structs, rust, calls = {}, {}, {}, {}
+    for name, fields in structs:
+        listed = ''.join(f'{C[kind]} {field};' for field, kind in read(r'pub (\w+):(u8|u16|u32|usize)(?:,|$)', fields, ABI))
+        header[name] = f'typedef struct {name}{{{listed}}}{name}'
+        rust_structs[name.removeprefix('Sel')] = f'#[repr(C)]pub(crate)struct {name.removeprefix("Sel")}{{{fields}}}'
+    for name, parameters, result in functions:
+        if result not in C and result not in header:
+            raise ValueError(f'{ABI} cannot be read: {name} hands back {result}')
+        in_c, in_rust, given = (','.join(x) for x in zip(*map(parameter, parameters.split(','))))
+        header[name] = f'{C.get(result, result)} {name}({in_c})'
+        rust[name] = f'pub fn {name}({in_rust})->{result.removeprefix("Sel")}'
+        calls[name] = f'library::{name}({given})'
+    return header, rust_structs, rust, calls
+
+
+def differing(file, found, must):
+    """What is found and is not as it must be."""
+    for text, name in found:
+        if text != must.get(name):
+            yield f'{file}: {text} must be {must[name]}' if name in must else f'{file}: {name} is not exported'
+
+
+def missing(file, found, must):
+    yield from (f'{file} leaves out {name}' for name in must if name not in [n for _, n in found])
+
+
+def header_faults(root, must):
+    text = re.sub(rf'(?m)^#define (?:{"|".join(s[0] for s in SIZES)}) \d+ *$', '', bare(root / HEADER))
+    frame = r'#ifndef SEL_H#define SEL_H(?:#include<[\w.]+>)*#ifdef __cplusplus extern"C"\{#endif (.*)#ifdef __cplusplus\}#endif#endif'
+    [(body,)] = read(frame, tight(text), HEADER)
+    found = read(r'(typedef struct \w+\{[^{}]*\}(?=\w)|[\w ]+ (?=\w+\())(\w+)(\([^()]*\))?;', body, HEADER)
+    found = [(kind + name + parameters if parameters else kind + name, name) for kind, name, parameters in found]
+    yield from differing(HEADER, found, must)
+    yield from missing(HEADER, found, must)
+
+
+def ffi_faults(root, structs, functions, calls):
+    """ffi.rs need not declare every function."""
+    file = f'{RUST}/ffi.rs'
+    code = tight(bare(root / file))
+    found = re.findall(r'((?:#\[[^]]*\])*pub\(crate\)struct (\w+)\{[^{}]*\})', code)
+    yield from differing(file, found, structs)
+    yield from missing(file, found, structs)
+    blocks = re.findall(r'extern"C"\{([^{}]*)\}', code)
+    yield from differing(file, read(r'(pub fn (\w+)\([^()]*\)(?:->\w+)?);', ''.join(blocks), file), functions)
+    called = re.findall(r'(library::(\w+)\((?:[^()]|\(\))*\))', code)
+    yield from differing(file, called, calls)
+    if (len(found), len(blocks), len(called)) != (code.count('struct '), code.count('extern'), code.count('library::')):
+        yield f'{file} cannot be read: a struct, extern or library:: of another form'
+
+
+def size_faults(root):
+    for macro, file, constant, spec, name in SIZES:
+        found = re.findall(rf'(?m)^{name} = (\d+)$', (root / spec).read_text() if (root / spec).is_file() else '')
+        if len(found) != 1:
+            yield f'{spec}: no line {name} = a number'
+            continue
+        said = {
+            f'{HEADER}: {macro}': re.findall(rf'(?m)^#define {macro} (\d+) *$', bare(root / HEADER)),
+            f'{RUST}/{file}: {constant}': re.findall(rf'(?m)^(?:pub(?:\(crate\))? )?const {constant}: usize = (\d+);$', bare(root / RUST / file)),
+        }
+        yield from (f'{at} is {" and ".join(numbers) or "no number"}, and {name} is {found[0]}' for at, numbers in said.items() if numbers != found)
+        for number in re.findall(rf'\b{macro} \((\d+)\)', (root / HEADER).read_text()):
+            if number != found[0]:
+                yield f'{HEADER}: a comment says {macro} ({number}), and {name} is {found[0]}'
+
+
+def signature_faults(root):
+    if not (root / 'crates/abi').is_dir():
+        return
+    try:
+        header, structs, functions, calls = exported(root)
+        yield from header_faults(root, header)
+        yield from ffi_faults(root, structs, functions, calls)
+        yield from size_faults(root)
+    except (OSError, ValueError) as fault:  # a file that is not there, or not of the form that is read here
+        yield f'signatures: {fault}'

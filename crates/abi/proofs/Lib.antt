@@ -1,4 +1,5 @@
 pub mod Laws
 pub mod LengthSays
+pub mod Sizes
 pub mod Untouched
 pub mod Walking

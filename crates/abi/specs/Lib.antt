@@ -2,5 +2,6 @@ pub mod Filled
 pub mod LengthSays
 pub mod Questions
 pub mod Says
+pub mod Sizes
 pub mod Untouched
 pub mod Walks

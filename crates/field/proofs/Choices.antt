@@ -13,6 +13,11 @@ pub float : {A B : Type 0} (f : A → B) (b : Bool) (x y : A) → f (if b then x
 float f true x y = refl
 float f false x y = refl
 
+-- what both have, the chosen one has
+pub either : {A : Type 0} (P : A → Type 0) (b : Bool) (x y : A) → P x → P y → P (if b then x else y)
+either P true x y p q = p
+either P false x y p q = q
+
 -- a choice of a number by equality with it is the number
 pub settled : (n k : ℕ) (b : Bool) → eqb n k ≡ b → (if b then k else n) ≡ n
 settled n k true e = sym (eqb-true n k e)

@@ -1,0 +1,47 @@
+-- How many bytes can be written: what include/sel.h says of each function, and what the buffers of its callers rest on. Assumes nothing.
+use Prim.Native.Nat.{ℕ, _≤_, _<_, _^_}
+use Prim.Native.Char.{code}
+use mathlib.Core.Path.{_≡_}
+use mathlib.Core.Bool.{Bool, true, false, _||_}
+use mathlib.Core.List.{List, [], _∷_}
+use lib.Dec.{eqb}
+use lib.ListN.{length}
+use Rattle.field.specs.Bits.{Bytes}
+use Rattle.storage.specs.Time.{timeRoom, timeText}
+use Rattle.event_data.specs.DataText.{dataRoom, dataText}
+use Rattle.event_data.specs.EventData.{eventDataOf}
+use Rattle.event_offset.specs.Event.{eventRoom, eventText}
+use Rattle.sel.specs.Entry.{typeAt}
+use Rattle.flat_form.specs.Form.{taken}
+use Rattle.flat_requests.specs.Requests.{requestOf}
+use Rattle.flat.specs.Kinds.{flatOf}
+use Rattle.flat.specs.declared.Kind.{Kind}
+use Rattle.abi.specs.Questions.{questionOf}
+
+-- the letters of texts
+abbrev pub isText : ℕ → Bool
+isText letter = eqb letter (code "y") || eqb letter (code "v") || eqb letter (code "x") || eqb letter (code "t")
+
+-- the most bytes of all other letters: those of a get-entry answer with a system event
+abbrev pub flatRoom : ℕ
+flatRoom = 24
+
+-- the most bytes of a request's payload
+abbrev pub requestRoom : ℕ
+requestRoom = 6
+
+pub record Sizes : Type 0 where
+  -- `sel_decode`: of any letter and any bytes
+  pub texts : (letter : ℕ) (s flat : List ℕ) → isText letter ≡ true → Bytes (length s) s → questionOf letter s ≡ taken flat → length flat ≤ eventRoom
+  pub others : (letter : ℕ) (s flat : List ℕ) → isText letter ≡ false → questionOf letter s ≡ taken flat → length flat ≤ flatRoom
+  -- `sel_entry`, by the record's type
+  pub system : (s flat : List ℕ) → flatOf Kind.Entry s ≡ taken flat → typeAt s ≡ 0x02 → length flat ≡ 22
+  pub stamped : (s flat : List ℕ) → flatOf Kind.Entry s ≡ taken flat → 0xC0 ≤ typeAt s → typeAt s ≤ 0xDF → length flat ≡ 18
+  pub plain : (s flat : List ℕ) → flatOf Kind.Entry s ≡ taken flat → 0xE0 ≤ typeAt s → length flat ≡ 17
+  -- `sel_allocation`
+  pub allocation : (s flat : List ℕ) → flatOf Kind.Allocation s ≡ taken flat → length flat ≡ 9
+  -- the texts by name, and the payload of a request
+  pub event : (event sensor offset : ℕ) → length (eventText event sensor offset) ≤ eventRoom
+  pub eventData : (b1 b2 b3 : ℕ) → b2 < 256 → b3 < 256 → length (dataText (eventDataOf (b1 ∷ b2 ∷ b3 ∷ []))) ≤ dataRoom
+  pub time : (t : ℕ) → t < 2 ^ 32 → length (timeText t) ≤ timeRoom
+  pub request : (command reservation argument : ℕ) (flat : List ℕ) → requestOf command reservation argument ≡ taken flat → length flat ≤ requestRoom

@@ -72,6 +72,11 @@ SelAnswer sel_decode(uint8_t kind, const uint8_t *data, size_t data_length, uint
  * under 16 for e, under 18 for g, any but 14 for i, under 9 for a, under 2 for r, and 0 for c; else 0. 255 for any other letter. */
 uint32_t sel_length(uint8_t kind, size_t len);
 
+/* How many bytes of an answer count: 16 for e, 18 for g, 14 for i, 9 for a, 2 for r, 1 for c; 0 for any other letter. Where sel_length says 0, the
+ * answer has so many, and sel_decode answers and writes the same for these alone as for all of it. So whoever asks sel_length first, and then takes
+ * at most 18 bytes, allocates for no length that a controller made up, and loses nothing. */
+size_t sel_bytes_that_count(uint8_t kind);
+
 /* The longest text of an event. */
 #define SEL_EVENT_TEXT 70
 
@@ -83,14 +88,15 @@ SelAnswer sel_event_text(uint8_t event_type, uint8_t sensor_type, uint8_t offset
 #define SEL_STORE 6435
 #define SEL_PLACES 640
 
-/* Fills a store and its tables, which then hold every event's text. It is worth it where many texts are written.
+/* Fills a store and its tables, which then hold every event's text; a place of an event without text has start 0 and length 0. It is worth it where
+ * many texts are written.
  * The length of an accepted answer is SEL_STORE. 4 with the length needed of the first slice that is too short; then none is written. */
 SelAnswer sel_texts(uint8_t *store, size_t store_length, uint16_t *starts, size_t starts_length, uint8_t *lengths, size_t lengths_length);
 
-/* Writes the text of an event out of a lent store. With the first SEL_STORE and SEL_PLACES elements of what sel_texts filled it does what
- * sel_event_text does. Whatever else is lent: with p = 16 * class + offset it writes the bytes of the store from starts[p] on, lengths[p] of them,
- * as far as they are there, where a place that is not there counts as 0. The classes are the rows of table 42-2, 0 to 11, and of table 42-3, 12 to 39;
- * 40 is no class, and looks at the places from SEL_PLACES (640) on: so lend it no more places than sel_texts fills. */
+/* Writes the text of an event out of a lent store. Out of what sel_texts filled it does what sel_event_text does, whatever stands behind the first
+ * SEL_STORE and SEL_PLACES elements and however many of it are lent. Whatever else is lent: with p = 16 * class + offset it writes the bytes of the
+ * store from starts[p] on, lengths[p] of them, as far as they are there, where a place that is not there counts as 0. The class is the place of the
+ * event's row among the rows of table 42-2, 0 to 11, and of table 42-3, 12 to 39; an event that has no row has no text, and nothing is looked at. */
 SelAnswer sel_event_text_from(const uint8_t *store, size_t store_length, const uint16_t *starts, size_t starts_length,
                               const uint8_t *lengths, size_t lengths_length,
                               uint8_t event_type, uint8_t sensor_type, uint8_t offset, uint8_t *out, size_t out_length);
@@ -129,6 +135,10 @@ typedef struct SelFound {
     size_t found;
     size_t slot;
 } SelFound;
+
+/* What the length of a capture alone decides, before there is a byte of it: 5 exactly if sel_walk answers 5 for every capture of that length, which is
+ * for no multiple of 20 and for over 60,000; else 0. */
+uint32_t sel_slots_length(size_t len);
 
 /* 1 and the number, from 0, of the first whole slot that was asked for with the id; 0 and 0 where there is none. */
 SelFound sel_find(const uint8_t *slots, size_t slots_length, uint16_t id);

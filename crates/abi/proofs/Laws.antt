@@ -16,9 +16,7 @@ use Rattle.connection.specs.declared.LogicalUnit.{LogicalUnit}
 use Rattle.connection.specs.declared.NewChannel.{NewChannel}
 use Rattle.connection.specs.declared.NewUnit.{NewUnit}
 use Rattle.connection.proofs.Back.{unit-back}
-use Rattle.sel_commands.specs.Length.{lengthAnswer, lengthHands, numberOf as lengthNumberOf}
 use Rattle.sel_commands.specs.declared.length.AnswerKind.{AnswerKind}
-use Rattle.sel_commands.specs.declared.length.LengthAnswer.{LengthAnswer}
 use Rattle.flat_form.specs.Form.{Flat, Gives, fromWritten, numberOf as flatNumber, taken}
 use Rattle.flat_form.specs.declared.FlatAnswer.{FlatAnswer}
 use Rattle.capture.proofs.Clash.{clash}
@@ -26,7 +24,7 @@ use Rattle.flat_letters.specs.Letters.{letterFlat}
 use Rattle.flat_form.proofs.Laws.{gives-is, gives-written}
 use Rattle.lent_texts.specs.Fills.{Fills}
 use Rattle.abi.specs.Filled.{Filled}
-use Rattle.abi.specs.Questions.{lengthNumber, questionOf}
+use Rattle.abi.specs.Questions.{byKind, questionOf}
 use Rattle.abi.specs.Says.{Says, answerOf, named, numberOf, said, unitHands}
 use Rattle.abi.specs.declared.SelAnswer.{SelAnswer}
 
@@ -60,16 +58,17 @@ pub by-letter : (k : ℕ) (s : List ℕ) → (k ≡ code "e" → ⊥) → (k ≡
 unfolding questionOf
 by-letter k s e g a = rw (ne-eqb k (code "e") e, ne-eqb k (code "g") g, ne-eqb k (code "a") a)
 
-pub no-length-letter : (k n : ℕ) → (k ≡ code "e" → ⊥) → (k ≡ code "g" → ⊥) → (k ≡ code "i" → ⊥) → (k ≡ code "a" → ⊥) → (k ≡ code "r" → ⊥) → (k ≡ code "c" → ⊥)
-    → 255 ≡ lengthNumber k n
-unfolding lengthNumber
-no-length-letter k n e g i a r c =
+pub no-kind : {A : Type 0} (of : AnswerKind → A) (none : A) (k : ℕ)
+    → (k ≡ code "e" → ⊥) → (k ≡ code "g" → ⊥) → (k ≡ code "i" → ⊥) → (k ≡ code "a" → ⊥) → (k ≡ code "r" → ⊥) → (k ≡ code "c" → ⊥)
+    → none ≡ byKind of none k
+unfolding byKind
+no-kind of none k e g i a r c =
     rw (ne-eqb k (code "e") e, ne-eqb k (code "g") g, ne-eqb k (code "i") i, ne-eqb k (code "a") a, ne-eqb k (code "r") r, ne-eqb k (code "c") c)
 
--- the number of what the length decides
-pub told-number : (kind : AnswerKind) (n : ℕ) {a b : LengthAnswer} → Answers a (lengthAnswer kind n) lengthNumberOf (lengthHands kind n) → a ≡ b
-    → lengthNumberOf b .number ≡ lengthHands kind n .number
-told-number kind n p e = ap (λ (x : LengthAnswer). lengthNumberOf x .number) (sym e) ∙ ap (λ (h : Handed). h .number) (p .numbered)
+-- the number of what was answered, and then told apart
+pub told-number : {A : Type 0} {numberOf : A → Handed} {definition : A} {table : Handed} {a b : A} → Answers a definition numberOf table → a ≡ b
+    → numberOf b .number ≡ table .number
+told-number {A} {numberOf} p e = ap (λ (x : A). numberOf x .number) (sym e) ∙ ap (λ (h : Handed). h .number) (p .numbered)
 
 pub fills : {a b c store starts lengths : List ℕ} {w : Written} {f : FlatAnswer} {r : SelAnswer} → r ≡ answerOf f → f ≡ fromWritten w
     → Fills a b c w store starts lengths → Filled a b c r store starts lengths

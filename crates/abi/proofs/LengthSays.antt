@@ -1,30 +1,41 @@
--- The theorem of specs/LengthSays.antt: a length's number is that of `length_answer`, and a kind's question is decided by its own number. Assumes nothing.
+-- The theorems of specs/LengthSays.antt: a length's number is that of `length_answer`, and a kind's question is decided by its own number. Assumes nothing.
 use Prim.Native.Nat.{ℕ}
-use mathlib.Core.Path.{_≡_, refl, ap, subst, _∙_}
+use mathlib.Core.Path.{_≡_, refl, sym, ap, subst, _∙_}
 use mathlib.Core.Bool.{Bool, true, false}
 use mathlib.Core.List.{List, []}
 use native.Mathlib.Omega.{arith}
 use borrow.Author.Tests.{eq-eqb}
+use lib.ListN.{length, take}
 use Rattle.field.specs.Bits.{Bytes}
 use Rattle.field.specs.Handed.{Handed, handed}
 use Rattle.connection.specs.Channel.{validChannel}
-use Rattle.sel_commands.specs.Length.{lengthAnswer, lengthHands, refusedLength}
+use Rattle.sel_commands.specs.Length.{bytesThatCount, lengthAnswer, lengthHands, refusedLength}
 use Rattle.sel_commands.specs.Rows.{handsOf}
 use Rattle.sel_commands.specs.declared.length.AnswerKind.{AnswerKind}
 use Rattle.sel_commands.specs.declared.length.LengthAnswer.{LengthAnswer}
+use Rattle.sel_commands.proofs.BytesThatCount.{bytes-that-count, enough}
 use Rattle.sel_commands.proofs.LengthDecides.{decides}
 use Rattle.sel_commands.proofs.Rows.{answer-rows}
+use Rattle.capture.specs.Length.{badLength, slotsAnswer, slotsHands}
+use Rattle.capture.specs.Walk.{walkOf}
+use Rattle.capture.specs.Walked.{numberOf as walkedNumber}
+use Rattle.capture.specs.declared.SlotsAnswer.{SlotsAnswer}
+use Rattle.capture.specs.declared.Verdict.{Verdict}
+use Rattle.capture.proofs.SlotsLength.{slots-length}
 use Rattle.flat_form.specs.Form.{Flat, decided, flatAnswer, numberOf as flatNumber, taken}
 use Rattle.flat_entry.specs.Records.{entryFlat, getEntryFlat}
 use Rattle.flat_answers.specs.Answers.{allocationFlat, clearFlat, infoFlat, reserveFlat}
 use Rattle.flat.specs.Kinds.{flatOf}
 use Rattle.flat.specs.Rows.{kindOf}
+use Rattle.flat.proofs.Counts.{flat-counts}
 use Rattle.flat.proofs.Rows.{flat-rows}
 use Rattle.flat_letters.specs.Letters.{letterFlat}
-use Rattle.abi.specs.LengthSays.{LengthSays, letterOf}
-use Rattle.abi.specs.Questions.{lengthNumber, questionOf}
+use Rattle.abi.specs.LengthSays.{LengthSays, SlotsSay, letterOf}
+use Rattle.abi.specs.Questions.{byKind, lengthNumber, letterBytes, questionOf}
 use Rattle.abi.specs.Says.{Says, answerOf}
+use Rattle.abi.specs.Walks.{Walks, walkAnswer}
 use Rattle.abi.specs.declared.SelAnswer.{SelAnswer}
+use Rattle.abi.specs.declared.walk.SelWalk.{SelWalk}
 use Rattle.abi.proofs.Untouched.{given, number-of}
 
 question-is : (kind : AnswerKind) (s : List ℕ) → questionOf (letterOf kind) s ≡ flatOf (kindOf kind) s
@@ -36,8 +47,17 @@ question-is AnswerKind.Allocation s = refl
 question-is AnswerKind.Reserve s = refl
 question-is AnswerKind.Clear s = refl
 
+bytes-are : (kind : AnswerKind) → letterBytes (letterOf kind) ≡ bytesThatCount kind
+unfolding byKind
+bytes-are AnswerKind.Entry = refl
+bytes-are AnswerKind.GetEntry = refl
+bytes-are AnswerKind.Info = refl
+bytes-are AnswerKind.Allocation = refl
+bytes-are AnswerKind.Reserve = refl
+bytes-are AnswerKind.Clear = refl
+
 length-is : (kind : AnswerKind) (n : ℕ) → lengthNumber (letterOf kind) n ≡ lengthHands kind n .number
-unfolding lengthNumber
+unfolding byKind
 length-is AnswerKind.Entry n = refl
 length-is AnswerKind.GetEntry n = refl
 length-is AnswerKind.Info n = refl
@@ -78,6 +98,9 @@ module _ (kind : AnswerKind) (n : ℕ) where
       let short = answer-rows validChannel kind s .rows .one .0 number in
       ap (λ (x : SelAnswer). x .number) (q .answered) ∙ number-of (flatAnswer f out) ∙ flat-rows kind s out left (flatAnswer f out) .one (given f out q) .1 short
 
+  told : lengthNumber (letterOf kind) n ≡ 0 → lengthAnswer kind n ≡ LengthAnswer.MayBeRead
+  told z = number-else (refusedLength kind n) refl (λ o. omega arith) .1
+
   pub length-says : LengthSays kind n
   length-says = record {
     refused = λ z s out left r a p. one s out left r (decides validChannel kind n .refused .0 (number-told (refusedLength kind n) refl z) s a) p;
@@ -86,4 +109,39 @@ module _ (kind : AnswerKind) (n : ℕ) where
         let d = decides validChannel kind n .readable (e .1) in
         let t = accepted kind (d .0) (d .2) in
         (e .0, (d .0, d .1, (t .0, question-is kind (d .0) ∙ t .1)));
+    there = λ z. rw (bytes-are kind) (enough validChannel kind n (told z));
+    few = rw (bytes-are kind) (bytes-that-count validChannel kind [] .few);
+    cut = λ z s e.
+        rw (bytes-are kind) (question-is kind (take (bytesThatCount kind) s) ∙ flat-counts kind s .same (rw e (told z)) ∙ sym (question-is kind s));
+  }
+
+-- the walk's number, in both forms of its answer
+walk-number : (v : Verdict) → walkAnswer v .number ≡ walkedNumber v .number
+walk-number (Verdict.Ended read) = refl
+walk-number (Verdict.Missing ask read) = refl
+walk-number (Verdict.Spent ask read) = refl
+walk-number (Verdict.Circle read) = refl
+walk-number (Verdict.NoRoom n) = refl
+walk-number Verdict.BadCapture = refl
+
+module _ (len : ℕ) where
+  slots-told : (b : Bool) → badLength len ≡ b → slotsHands len .number ≡ 5 → slotsAnswer len ≡ SlotsAnswer.BadCapture
+  unfolding slotsHands slotsAnswer
+  slots-told true e z = rw e
+  slots-told false e z = absurd (omega (arith, rw e at z))
+
+  slots-else : (b : Bool) → badLength len ≡ b → (slotsHands len .number ≡ 5 → ⊥) → (slotsHands len .number ≡ 0) × (slotsAnswer len ≡ SlotsAnswer.MayBeWalked)
+  unfolding slotsHands slotsAnswer
+  slots-else true e z = absurd (z (rw e))
+  slots-else false e z = (rw e, rw e)
+
+  walk-says : (s : List ℕ) (b : ℕ) (old left : List ℕ) (r : SelWalk) → Walks s b old r left → r .number ≡ walkedNumber (walkOf s b (length old)) .number
+  walk-says s b old left r w = ap (λ (x : SelWalk). x .number) (w .answered) ∙ walk-number (walkOf s b (length old))
+
+  pub slots-say : SlotsSay len
+  slots-say = record {
+    refused = λ z s e b old left r w. walk-says s b old left r w ∙ slots-length len .bad .0 (slots-told (badLength len) refl z) s e b old;
+    walked = λ z.
+        let f = slots-else (badLength len) refl z in
+        (f .0, λ s e b old left r w room. walk-says s b old left r w ∙ slots-length len .walked (f .1) s e b old room);
   }

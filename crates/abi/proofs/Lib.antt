@@ -1,3 +1,4 @@
+pub mod FromStore
 pub mod Laws
 pub mod LengthSays
 pub mod Sizes

@@ -32,7 +32,7 @@ use Rattle.flat_answers.specs.Answers.{allocationFlat, clearFlat, idFlat, infoF
 use Rattle.flat_texts.specs.Texts.{entryTextFlat, eventDataTextFlat, eventTextFlat, timeTextFlat}
 use Rattle.flat_requests.specs.Requests.{clearOf, questionLength, requestFlat, requestOf}
 use Rattle.flat_letters.specs.Letters.{letterFlat}
-use Rattle.direct_event.proofs.Laws.{shown-length}
+use Rattle.flat_event.proofs.Laws.{shown-length}
 use Rattle.direct_entry.proofs.Laws.{plain-length, stamped-length, system-length}
 use Rattle.abi.specs.Questions.{questionOf}
 use Rattle.abi.specs.Sizes.{Sizes, flatRoom, isText, requestRoom}

@@ -1,4 +1,5 @@
 pub mod Filled
+pub mod FromStore
 pub mod LengthSays
 pub mod Questions
 pub mod Says

@@ -4,7 +4,7 @@ use Prim.Native.Char.{code}
 use mathlib.Core.List.{List}
 use lib.Dec.{eqb}
 use Rattle.field.specs.Choose.{if_then_else_}
-use Rattle.sel_commands.specs.Length.{lengthHands}
+use Rattle.sel_commands.specs.Length.{bytesThatCount, lengthHands}
 use Rattle.sel_commands.specs.declared.length.AnswerKind.{AnswerKind}
 use Rattle.flat_form.specs.Form.{Flat}
 use Rattle.flat.specs.Kinds.{flatOf}
@@ -19,13 +19,21 @@ questionOf letter s =
     if eqb letter (code "a") then flatOf Kind.Allocation s else
     letterFlat letter s
 
+-- what belongs to the kind of answer that the letter names, or to none of them
+unfoldable pub byKind : {A : Type 0} → (AnswerKind → A) → A → ℕ → A
+byKind of none letter =
+    if eqb letter (code "e") then of AnswerKind.Entry else
+    if eqb letter (code "g") then of AnswerKind.GetEntry else
+    if eqb letter (code "i") then of AnswerKind.Info else
+    if eqb letter (code "a") then of AnswerKind.Allocation else
+    if eqb letter (code "r") then of AnswerKind.Reserve else
+    if eqb letter (code "c") then of AnswerKind.Clear else
+    none
+
 -- what the length alone decides of an answer of the kind that the letter names: 0 or 1; 255 for any other letter
-unfoldable pub lengthNumber : ℕ → ℕ → ℕ
-lengthNumber letter n =
-    if eqb letter (code "e") then lengthHands AnswerKind.Entry n .number else
-    if eqb letter (code "g") then lengthHands AnswerKind.GetEntry n .number else
-    if eqb letter (code "i") then lengthHands AnswerKind.Info n .number else
-    if eqb letter (code "a") then lengthHands AnswerKind.Allocation n .number else
-    if eqb letter (code "r") then lengthHands AnswerKind.Reserve n .number else
-    if eqb letter (code "c") then lengthHands AnswerKind.Clear n .number else
-    255
+abbrev pub lengthNumber : ℕ → ℕ → ℕ
+lengthNumber letter n = byKind (λ kind. lengthHands kind n .number) 255 letter
+
+-- the bytes of it that count; 0 for any other letter
+abbrev pub letterBytes : ℕ → ℕ
+letterBytes letter = byKind bytesThatCount 0 letter

@@ -3,15 +3,28 @@ mod connections;
 mod texts;
 mod walk;
 
+pub use connections::sel_channel;
+pub use connections::sel_unit;
 use flat_form::FlatAnswer;
 use sel_commands::length::AnswerKind;
 use sel_commands::length::LengthAnswer;
+use sel_commands::length::bytes_that_count;
+pub use texts::sel_data_text;
+pub use texts::sel_event_text;
+pub use texts::sel_event_text_from;
+pub use texts::sel_texts;
+pub use texts::sel_time_text;
+pub use walk::SelFound;
+pub use walk::SelWalk;
+pub use walk::sel_find;
+pub use walk::sel_slots_length;
+pub use walk::sel_walk;
 ghost use mathlib.Core.Path.{_≡_};
 ghost use Rattle.sel_commands.specs.Length.{lengthHands};
 ghost use Rattle.flat_requests.specs.Requests.{requestOf};
 ghost use Rattle.flat.specs.Kinds.{flatOf};
 ghost use Rattle.flat.specs.declared.Kind.{Kind};
-ghost use Rattle.abi.specs.Questions.{lengthNumber, questionOf};
+ghost use Rattle.abi.specs.Questions.{letterBytes, lengthNumber, questionOf};
 ghost use Rattle.abi.specs.Says.{Says, answerOf};
 
 // A letter, command or number that there is none of.
@@ -121,6 +134,22 @@ fn length_number(kind: AnswerKind, len: usize) -> u32
     match sel_commands::length::length_answer(kind, len) {
         LengthAnswer::MayBeRead => 0,
         LengthAnswer::NotEnoughData => 1,
+    }
+}
+
+// How many bytes of an answer count; 0 for any other letter.
+#[no_mangle]
+pub extern "C" fn sel_bytes_that_count(kind: u8) -> usize
+    ensures { λ r. ⌜ r ≡ letterBytes kind ⌝ }
+{
+    match kind {
+        b'e' => bytes_that_count(AnswerKind::Entry),
+        b'g' => bytes_that_count(AnswerKind::GetEntry),
+        b'i' => bytes_that_count(AnswerKind::Info),
+        b'a' => bytes_that_count(AnswerKind::Allocation),
+        b'r' => bytes_that_count(AnswerKind::Reserve),
+        b'c' => bytes_that_count(AnswerKind::Clear),
+        _ => 0,
     }
 }
 

@@ -1,8 +1,10 @@
 // Captures: the first slot with an id, and the walk along the chain.
 use capture::Found;
+use capture::SlotsAnswer;
 use capture::Verdict;
 use ids::RecordId;
 ghost use mathlib.Core.Path.{_≡_};
+ghost use Rattle.capture.specs.Length.{slotsHands};
 ghost use Rattle.capture.specs.Slots.{firstSlot};
 ghost use Rattle.abi.specs.Walks.{Walks, foundAnswer};
 
@@ -21,6 +23,17 @@ pub struct SelWalk {
     pub ask: u32,
     pub read: u32,
     pub needed: u32,
+}
+
+// What the length of a capture decides, before there is a byte of it.
+#[no_mangle]
+pub extern "C" fn sel_slots_length(len: usize) -> u32
+    ensures { λ r. ⌜ r ≡ slotsHands len .number ⌝ }
+{
+    match capture::slots_answer(len) {
+        SlotsAnswer::MayBeWalked => 0,
+        SlotsAnswer::BadCapture => 5,
+    }
 }
 
 #[no_mangle]

@@ -1,1 +1,5 @@
-// The claims: what is demanded of the port, and the cases of its rules, each as one statement (specs/) with its proof (proofs/). No code.
+// What the claims speak of: each function that a user calls is called here, under the promise that the sentences of specs/ start from. So a contract
+// below that comes to promise less is refused here.
+pub mod answers;
+pub mod captures;
+pub mod writers;

@@ -75,15 +75,30 @@ pub enum AnswerKind {
     Clear,
 }
 
+impl AnswerKind {
+    fn letter(self) -> u8 {
+        match self {
+            AnswerKind::Entry => b'e',
+            AnswerKind::GetEntry => b'g',
+            AnswerKind::Info => b'i',
+            AnswerKind::Allocation => b'a',
+            AnswerKind::Reserve => b'r',
+            AnswerKind::Clear => b'c',
+        }
+    }
+}
+
 /// Whether every answer of this kind and length is refused as too short (an info answer also as too long), before there is a byte of it.
 pub fn refused_length(kind: AnswerKind, length: usize) -> bool {
-    let letter = match kind {
-        AnswerKind::Entry => b'e',
-        AnswerKind::GetEntry => b'g',
-        AnswerKind::Info => b'i',
-        AnswerKind::Allocation => b'a',
-        AnswerKind::Reserve => b'r',
-        AnswerKind::Clear => b'c',
-    };
-    ffi::length(letter, length) != 0
+    ffi::length(kind.letter(), length) != 0
+}
+
+/// How many bytes of an answer count: one whose length is not refused, cut to so many, is answered the same. At most 18.
+pub fn bytes_that_count(kind: AnswerKind) -> usize {
+    ffi::bytes_that_count(kind.letter())
+}
+
+/// Whether every capture of this length is refused as [`WalkError::BadCapture`], before there is a byte of it.
+pub fn refused_slots(length: usize) -> bool {
+    ffi::slots_length(length) != 0
 }

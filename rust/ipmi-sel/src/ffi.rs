@@ -32,6 +32,7 @@ mod library {
         pub fn sel_allocation(data: *const u8, data_length: usize, out: *mut u8, out_length: usize) -> Answer;
         pub fn sel_decode(kind: u8, data: *const u8, data_length: usize, out: *mut u8, out_length: usize) -> Answer;
         pub fn sel_length(kind: u8, len: usize) -> u32;
+        pub fn sel_bytes_that_count(kind: u8) -> usize;
         pub fn sel_texts(
             store: *mut u8,
             store_length: usize,
@@ -58,6 +59,7 @@ mod library {
         pub fn sel_request(command: u8, reservation: u16, argument: u16, out: *mut u8, out_length: usize) -> Answer;
         pub fn sel_channel(number: u8) -> Answer;
         pub fn sel_unit(number: u8) -> Answer;
+        pub fn sel_slots_length(len: usize) -> u32;
         pub fn sel_find(slots: *const u8, slots_length: usize, id: u16) -> Found;
         pub fn sel_walk(slots: *const u8, slots_length: usize, budget: usize, list: *mut u16, list_length: usize) -> Walk;
     }
@@ -84,6 +86,10 @@ pub(crate) fn decode(kind: u8, data: &[u8], out: &mut [u8]) -> Answer {
 
 pub(crate) fn length(kind: u8, len: usize) -> u32 {
     unsafe { library::sel_length(kind, len) }
+}
+
+pub(crate) fn bytes_that_count(kind: u8) -> usize {
+    unsafe { library::sel_bytes_that_count(kind) }
 }
 
 pub(crate) fn texts(store: &mut [u8], starts: &mut [u16], lengths: &mut [u8]) -> Answer {
@@ -130,6 +136,10 @@ pub(crate) fn channel(number: u8) -> Answer {
 
 pub(crate) fn unit(number: u8) -> Answer {
     unsafe { library::sel_unit(number) }
+}
+
+pub(crate) fn slots_length(len: usize) -> u32 {
+    unsafe { library::sel_slots_length(len) }
 }
 
 pub(crate) fn find(slots: &[u8], id: u16) -> Found {

@@ -5,10 +5,10 @@ use Rattle.abi.proofs.length_number.Statement.{statement}
 use Rattle.abi.proofs.length_number.Tie as tie
 
 returns : tie.Need-returns
-returns c = told-number _ _ (c .before .before .length-answer .ensures) (c .enum-told .given .1)
+returns c = told-number (c .before .before .length-answer .ensures) (c .enum-told .given .1)
 
 returns-2 : tie.Need-returns-2
-returns-2 c = told-number _ _ (c .before .before .length-answer .ensures) (c .enum-told2 .given .1)
+returns-2 c = told-number (c .before .before .length-answer .ensures) (c .enum-told2 .given .1)
 
 pub length-number-spec : {M : Type 1} → statement M
 length-number-spec =

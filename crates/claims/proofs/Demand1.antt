@@ -19,8 +19,10 @@ use Rattle.connection.specs.Channel.{validChannel}
 use Rattle.sel.specs.Entry.{channelIn, typeAt}
 use Rattle.sel.specs.Numbers.{entryHands}
 use Rattle.sel.specs.Rows.{GoodRecord, InvalidChannel, Rows, UnknownType}
+use Rattle.sel_commands.specs.Answer.{Answer, numberOf}
 use Rattle.sel_commands.specs.Rows.{Accepted, Invalid, NotEnough, Unknown, handsOf, recordOf}
 use Rattle.sel_commands.specs.declared.length.AnswerKind.{AnswerKind}
+use Rattle.sel_commands.proofs.BytesThatCount.{bytes-that-count}
 use Rattle.sel_commands.proofs.LengthDecides.{decides}
 use Rattle.sel_commands.proofs.Rows.{answer-rows}
 use Rattle.capture.specs.Walked.{Walked, numberOf as walkNumber}
@@ -38,6 +40,7 @@ use Rattle.flat_texts.specs.Texts.{entryTextFlat, eventDataTextFlat, eventTextF
 use Rattle.flat_requests.specs.Requests.{clearOf, questionLength, requestFlat, requestOf}
 use Rattle.flat.specs.Kinds.{flatOf}
 use Rattle.flat.specs.declared.Kind.{Kind}
+use Rattle.flat.proofs.Counts.{flat-counts}
 use Rattle.flat.proofs.Rows.{flat-rows, same}
 use Rattle.slot_line.specs.Input.{judgeInput, slotsOf}
 use Rattle.slot_line.specs.declared.Judged.{Judged}
@@ -47,23 +50,14 @@ use Rattle.log.specs.Log.{Logged, closingHands, handsBy, leftBy}
 use Rattle.log.specs.Verdict.{slotsRead}
 use Rattle.log.specs.declared.Closing.{Closing}
 use Rattle.claims.specs.Demand1.{Demand1, OneOf, Valid}
-use Rattle.claims.specs.Promises.{Answer, Promised, numberOf}
-use Rattle.claims.proofs.Lines.{bad-line, too-many}
-
--- the number of what is answered is the table's
-numbered : (kind : AnswerKind) (s : List ℕ) (r : Answer kind) → Promised kind r s → numberOf kind r ≡ handsOf validChannel kind s
-numbered AnswerKind.Entry s r p = p .numbered
-numbered AnswerKind.GetEntry s r p = p .numbered
-numbered AnswerKind.Info s r p = p .numbered
-numbered AnswerKind.Allocation s r p = p .numbered
-numbered AnswerKind.Reserve s r p = p .numbered
-numbered AnswerKind.Clear s r p = p .numbered
+use Rattle.claims.specs.Promises.{Promised}
+use Rattle.claims.proofs.Lines.{bad-carries, bad-line, good-lines, too-many}
 
 abbrev RowsOf : AnswerKind → List ℕ → Handed → Type 0
 RowsOf kind s h = Rows h (Accepted validChannel kind s) (NotEnough kind s) (Unknown kind s) (Invalid validChannel kind s) (recordOf kind s)
 
 parsed : (kind : AnswerKind) (s : List ℕ) (r : Answer kind) → Promised kind r s → RowsOf kind s (numberOf kind r)
-parsed kind s r p = subst (λ (h : Handed). RowsOf kind s h) (sym (numbered kind s r p)) (answer-rows validChannel kind s .rows)
+parsed kind s r p = subst (λ (h : Handed). RowsOf kind s h) (sym (p .numbered)) (answer-rows validChannel kind s .rows)
 
 -- the valid channels
 channels : (n : ℕ) → (validChannel n ≡ true) ↔ Valid n
@@ -256,7 +250,9 @@ demand-1 =
       flatRoom = λ kind s out left r. flat-room out left r kind s;
       flatNeeds = λ bytes out left r g h. flat-needs out left r bytes g (omega arith);
       walked = refusals;
+      goodLines = good-lines;
       badLine = bad-line;
+      badCarries = bad-carries;
       tooMany = too-many;
       unwritten = unwritten;
       flatUnwritten = λ question out left r. untouched-else out left r .untouched question;
@@ -264,4 +260,7 @@ demand-1 =
       unread = λ input slots list slotsLeft listLeft r l n. unread-by input slots list slotsLeft listLeft r l n (judgeInput input) refl;
       lengths = decides validChannel;
       slotsLengths = slots-length;
+      counts = bytes-that-count validChannel;
+      cut = λ kind s r r′ e p q. p .decoded ∙ sym (bytes-that-count validChannel kind s .same e) ∙ sym (q .decoded);
+      flatCut = flat-counts;
     }

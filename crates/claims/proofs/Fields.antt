@@ -6,31 +6,33 @@ use mathlib.Core.List.{List, [], _∷_, _++_}
 use mathlib.Core.Logic.{_↔_}
 use native.Mathlib.Omega.{arith}
 use borrow.Author.Tests.{eq-eqb, eqb-true, le-leb, le-ltb, lt-leb, lt-ltb, ne-eqb}
-use lib.Dec.{eqb, leb}
+use lib.Dec.{eqb, leb, ltb}
 use lib.Seq.{drop-at, take-at}
 use lib.ListN.{length, drop, take, length-drop, length-take, replicate}
 use Rattle.field.specs.Bits.{byteAt, bits, bytesAt, le16At, le24At, le32At}
 use Rattle.field.specs.Choose.{if_then_else_, within}
-use Rattle.connection.specs.Channel.{channelAt, channelNumber, validChannel}
-use Rattle.connection.specs.Unit.{unitNumber, unitOf}
-use Rattle.connection.proofs.Back.{channel-number, unit-back}
+use Rattle.connection.specs.Channel.{channelAt, validChannel}
+use Rattle.connection.specs.Unit.{unitOf}
 use Rattle.storage.specs.Alloc.{allocAt, parseAlloc}
 use Rattle.storage.specs.Time.{timestamp}
 use Rattle.storage.specs.declared.AllocAnswer.{AllocAnswer}
 use Rattle.storage.specs.declared.AllocInfo.{AllocInfo}
 use Rattle.storage.specs.declared.Timestamp.{Timestamp}
 use Rattle.event_data.specs.EventData.{byKind, eventDataOf}
+use Rattle.event_data.specs.declared.EventData.{EventData}
 use Rattle.ids.specs.Ids.{recordId, reservationId}
 use Rattle.ids.specs.declared.RecordId.{RecordId}
 use Rattle.ids.specs.declared.ReservationId.{ReservationId}
 use Rattle.event_message.specs.Generator.{generatorAt}
 use Rattle.event_message.specs.Message.{directionOf, revisionOf}
-use Rattle.sel.specs.Entry.{parseEntry, plainRecord, stampedRecord, systemBy, systemOf, systemRecord, typeAt}
-use Rattle.sel.specs.declared.AsSystem.{AsSystem}
+use Rattle.event_message.specs.declared.EventDirection.{EventDirection}
+use Rattle.event_message.specs.declared.EventGenerator.{EventGenerator}
+use Rattle.event_message.specs.declared.EventMessageRevision.{EventMessageRevision}
+use Rattle.sel.specs.Entry.{channelIn, noOem, parseEntry, plainRecord, refusedFor, stampedRecord, systemBy, systemRecord, typeAt}
 use Rattle.sel.specs.declared.Entry.{Entry}
 use Rattle.sel.specs.declared.EntryAnswer.{EntryAnswer}
+use Rattle.sel.specs.declared.ParseEntryError.{ParseEntryError}
 use Rattle.sel.specs.declared.ParsedEntry.{ParsedEntry}
-use Rattle.sel.specs.declared.SystemEvent.{SystemEvent}
 use Rattle.get_entry.specs.GetEntry.{besideNext, parseAnswer, recordPart, withNext}
 use Rattle.get_entry.specs.declared.EntryInfo.{EntryInfo}
 use Rattle.get_entry.specs.declared.EntryInfoAnswer.{EntryInfoAnswer}
@@ -44,7 +46,7 @@ use Rattle.sel_commands.specs.declared.get_info.Info.{Info}
 use Rattle.sel_commands.specs.declared.get_info.InfoAnswer.{InfoAnswer}
 use Rattle.sel_commands.specs.declared.length.AnswerKind.{AnswerKind}
 use Rattle.sel_commands.specs.declared.reserve.ReserveAnswer.{ReserveAnswer}
-use Rattle.claims.specs.Fields.{AllocFields, Decoded, EventDataFields, InfoFields, PlainFields, StampedFields, SystemFields}
+use Rattle.claims.specs.Fields.{AllocFields, ChannelIs, Decoded, EventDataFields, InfoFields, PlainFields, StampedFields, SystemFields, UnitIs}
 use Rattle.claims.specs.Promises.{Promised}
 
 -- event data
@@ -69,34 +71,43 @@ three-bytes b1 b2 b3 =
     same true = refl
     same false = refl
 
--- a system record
-event-at : List ℕ → SystemEvent
-event-at s =
+-- the channel and the unit that bits name
+channel-is : (n : ℕ) → ChannelIs n (channelAt n)
+unfolding channelAt
+channel-is n =
     record {
-      «record_id» = record { 0 = le16At s 0 };
-      timestamp = record { 0 = le32At s 3 };
-      «generator_id» = generatorAt (byteAt s 7) (byteAt s 8);
-      «event_message_format» = revisionOf (byteAt s 9);
-      «sensor_type» = byteAt s 10;
-      «sensor_number» = byteAt s 11;
-      «event_direction» = directionOf (byteAt s 12);
-      «event_type» = bits 6 0 (byteAt s 12);
-      «event_data» = eventDataOf (byteAt s 13 ∷ byteAt s 14 ∷ byteAt s 15 ∷ []);
+      primary = λ e. rw (eq-eqb n 0 e);
+      current = λ e. rw (ne-eqb n 0 (λ z. omega arith), eq-eqb n 0xE e);
+      system = λ e. rw (ne-eqb n 0 (λ z. omega arith), ne-eqb n 0xE (λ z. omega arith), eq-eqb n 0xF e);
+      numbered = λ f g h. (record { 0 = n }, rw (ne-eqb n 0 f, ne-eqb n 0xE g, ne-eqb n 0xF h), refl);
     }
 
-system-fields : (s : List ℕ) → SystemFields s (event-at s)
-unfolding event-at generatorAt revisionOf directionOf
+unit-is : (b : ℕ) → UnitIs (bits 1 0 b) (unitOf b)
+unfolding unitOf
+unit-is b =
+    record {
+      zero = λ e. rw e;
+      one = λ e. rw e;
+      two = λ e. rw e;
+      three = λ e. rw e;
+    }
+
+-- a system record
+system-fields : (s : List ℕ)
+    → SystemFields s (recordId (le16At s 0)) (timestamp (le32At s 3)) (generatorAt (byteAt s 7) (byteAt s 8)) (revisionOf (byteAt s 9))
+    (byteAt s 10) (byteAt s 11) (directionOf (byteAt s 12)) (bits 6 0 (byteAt s 12)) (eventDataOf (byteAt s 13 ∷ byteAt s 14 ∷ byteAt s 15 ∷ []))
+unfolding generatorAt revisionOf directionOf
 system-fields s =
     record {
-      id = refl;
-      time = refl;
-      software = λ b. (channelAt (bits 7 4 (byteAt s 8)), rw (eq-eqb (bits 0 0 (byteAt s 7)) 1 b), channel-number (bits 7 4 (byteAt s 8)));
+      idIs = refl;
+      timeIs = refl;
+      software = λ b. (channelAt (bits 7 4 (byteAt s 8)), rw (eq-eqb (bits 0 0 (byteAt s 7)) 1 b), channel-is (bits 7 4 (byteAt s 8)));
       address = λ b. (
         channelAt (bits 7 4 (byteAt s 8)),
         unitOf (byteAt s 8),
         rw (ne-eqb (bits 0 0 (byteAt s 7)) 1 (λ e. omega arith)),
-        channel-number (bits 7 4 (byteAt s 8)),
-        unit-back .low (byteAt s 8),
+        channel-is (bits 7 4 (byteAt s 8)),
+        unit-is (byteAt s 8),
       );
       revision04 = λ b. rw (eq-eqb (byteAt s 9) 0x04 b);
       revision03 = λ b. rw (ne-eqb (byteAt s 9) 0x04 (λ e. omega arith), eq-eqb (byteAt s 9) 0x03 b);
@@ -106,7 +117,7 @@ system-fields s =
       assert = λ b. rw (ne-eqb (bits 7 7 (byteAt s 12)) 1 (λ e. omega arith));
       deassert = λ b. rw (eq-eqb (bits 7 7 (byteAt s 12)) 1 b);
       eventType = refl;
-      eventData = three-bytes (byteAt s 13) (byteAt s 14) (byteAt s 15);
+      dataIs = three-bytes (byteAt s 13) (byteAt s 14) (byteAt s 15);
     }
 
 module _ (s : List ℕ) (r : ParsedEntry) (p : Promised AnswerKind.Entry r s) (long : 16 ≤ length s) where
@@ -170,6 +181,7 @@ info-fields s =
       minor = refl;
       count = refl;
       free = refl;
+      mask = refl;
       added = refl;
       deleted = refl;
       overflows = bit-is (bits 7 7 b) (omega arith) (bits 7 7 b) refl;
@@ -187,12 +199,65 @@ alloc-fields s = record { units = refl; unitSize = refl; free = refl; largest = 
 -- each kind
 system : (s : List ℕ) (r : ParsedEntry) → Promised AnswerKind.Entry r s
     → 16 ≤ length s → byteAt s 2 ≡ 0x02 → validChannel (bits 7 4 (byteAt s 8)) ≡ true
-    → (entry : Entry) × (e : SystemEvent) × (r .answer ≡ EntryAnswer.Accepted entry) × (systemOf entry ≡ AsSystem.System e) × SystemFields s e
+    → (id : RecordId) × (time : Timestamp) × (generator : EventGenerator) × (revision : EventMessageRevision)
+    × (sensor : ℕ) × (number : ℕ) × (direction : EventDirection) × (event : ℕ) × (eventData : EventData)
+    × (r .answer ≡ EntryAnswer.Accepted (Entry.System id time generator revision sensor number direction event eventData))
+    × SystemFields s id time generator revision sensor number direction event eventData
     × (r .oem ≡ replicate 13 0)
-unfolding systemBy event-at
+unfolding systemBy
 system s r p l t v =
     let e = system-is s r p l t v in
-    (_, event-at s, ap (λ (x : ParsedEntry). x .answer) e, refl, system-fields s, ap (λ (x : ParsedEntry). x .oem) e)
+    (_, _, _, _, _, _, _, _, _, ap (λ (x : ParsedEntry). x .answer) e, system-fields s, ap (λ (x : ParsedEntry). x .oem) e)
+
+-- what a parsed record is: accepted, or refused and without OEM bytes
+data Fate (p : ParsedEntry) : Type 0 where
+  taken : (entry : Entry) → p .answer ≡ EntryAnswer.Accepted entry → Fate p
+  bare : (why : ParseEntryError) → p ≡ refusedFor why → Fate p
+
+fate : (s : List ℕ) → Fate (parseEntry validChannel s)
+unfolding parseEntry systemRecord systemBy stampedRecord plainRecord
+fate s = by (ltb (length s) 16) (eqb (typeAt s) 0x02) (validChannel (channelIn s)) (within 0xC0 0xDF (typeAt s)) (within 0xE0 0xFF (typeAt s))
+  where
+    by : (short two valid stamped plain : Bool)
+        → Fate (if short then refusedFor ParseEntryError.NotEnoughData else
+        if two then (if valid then systemBy (generatorAt (byteAt s 7) (byteAt s 8)) s else refusedFor (ParseEntryError.InvalidChannel (channelIn s))) else
+        if stamped then stampedRecord s else
+        if plain then plainRecord s else
+        refusedFor (ParseEntryError.UnknownRecordType (typeAt s)))
+    by true b v c d = bare _ refl
+    by false true true c d = taken _ refl
+    by false true false c d = bare _ refl
+    by false false v true d = taken _ refl
+    by false false v false true = taken _ refl
+    by false false v false false = bare _ refl
+
+no-bytes : (p : ParsedEntry) (why : ParseEntryError) → Fate p → p .answer ≡ EntryAnswer.Refused why → p .oem ≡ replicate 13 0
+no-bytes p why (bare w e) f = ap (λ (x : ParsedEntry). x .oem) e
+no-bytes p why (taken entry e) f = let z : _≡_ {A = ℕ} 0 1 = cc in absurd (omega arith)
+
+refused-bytes : (s : List ℕ) (r : ParsedEntry) (why : ParseEntryError) → Promised AnswerKind.Entry r s → r .answer ≡ EntryAnswer.Refused why
+    → r .oem ≡ replicate 13 0
+refused-bytes s r why p = no-bytes r why (subst Fate (sym (p .decoded)) (fate s))
+
+-- a refusal of the entry is handed on as it came
+as-it-came : (next : ℕ) (a : EntryAnswer) (why : ParseEntryError) → withNext next a ≡ EntryInfoAnswer.Refused why → a ≡ EntryAnswer.Refused why
+as-it-came next (EntryAnswer.Accepted entry) why e = let z : _≡_ {A = ℕ} 0 1 = cc in absurd (omega arith)
+as-it-came next (EntryAnswer.Refused w) why e = cc
+
+refused-answer : (s : List ℕ) (r : ParsedEntryInfo) (why : ParseEntryError) → Promised AnswerKind.GetEntry r s → r .answer ≡ EntryInfoAnswer.Refused why
+    → r .oem ≡ replicate 13 0
+unfolding parseAnswer
+refused-answer s r why p f = by (ltb (length s) 18) refl
+  where
+    by : (b : Bool) → ltb (length s) 18 ≡ b → r .oem ≡ replicate 13 0
+    by true t =
+        let e : r ≡ record { answer = EntryInfoAnswer.Refused ParseEntryError.NotEnoughData; oem = noOem } = p .decoded ∙ rw t in
+        ap (λ (x : ParsedEntryInfo). x .oem) e
+    by false t =
+        let q = parseEntry validChannel (drop 2 s) in
+        let e : r ≡ besideNext (le16At s 0) q = p .decoded ∙ rw t in
+        let g : withNext (le16At s 0) (q .answer) ≡ EntryInfoAnswer.Refused why = sym (ap (λ (x : ParsedEntryInfo). x .answer) e) ∙ f in
+        ap (λ (x : ParsedEntryInfo). x .oem) e ∙ no-bytes q why (fate (drop 2 s)) (as-it-came (le16At s 0) (q .answer) why g)
 
 stamped : (s : List ℕ) (r : ParsedEntry) → Promised AnswerKind.Entry r s → 16 ≤ length s → 0xC0 ≤ byteAt s 2 → byteAt s 2 ≤ 0xDF
     → (id : RecordId) × (type : ℕ) × (time : Timestamp) × (maker : ℕ)
@@ -268,6 +333,25 @@ decoded =
       system = λ s r p l. system s r p (omega arith);
       stamped = stamped;
       plain = plain;
+      refusedBytes = refused-bytes;
+      refusedAnswer = refused-answer;
+      opened = λ id time generator revision sensor number direction event eventData. (
+        _,
+        refl,
+        record {
+          idIs = refl;
+          timeIs = refl;
+          generatorIs = refl;
+          revisionIs = refl;
+          sensorType = refl;
+          sensorNumber = refl;
+          directionIs = refl;
+          eventType = refl;
+          dataIs = refl;
+        },
+      );
+      closedStamped = λ id type time maker. refl;
+      closedPlain = λ id type. refl;
       getEntry = get-entry;
       part = part;
       noPart = no-part;
@@ -278,5 +362,9 @@ decoded =
       inProgress = in-progress;
       newId = λ n f g. simp (ne-eqb n 0x0000 f, ne-eqb n 0xFFFF g);
       noId = (refl, refl);
+      idNumber = λ n. refl;
+      isFirst = λ id. (eqb-true (id .0) 0x0000, eq-eqb (id .0) 0x0000);
+      isLast = λ id. (eqb-true (id .0) 0xFFFF, eq-eqb (id .0) 0xFFFF);
+      reservationNumber = λ n. refl;
       threeBytes = three-bytes;
     }

@@ -3,6 +3,7 @@ pub mod Claims
 pub mod Demand1
 pub mod Demand3
 pub mod Fields
+pub mod Header
 mod Lines
 pub mod Requests
 pub mod Texts

@@ -13,7 +13,7 @@ use Rattle.slot_line.specs.Input.{inputHands, judgeInput, leading, lineForm, li
 use Rattle.slot_line.specs.Line.{fits}
 use Rattle.slot_line.specs.declared.Judged.{Judged}
 use Rattle.slot_line.proofs.Forms.{clash, unlike}
-use Rattle.claims.specs.Demand1.{FirstBad, OneTooMany}
+use Rattle.claims.specs.Demand1.{AllGood, FirstBad, OneTooMany}
 
 abbrev good : List (List ℕ) → ℕ → Bool
 good ls j = fits lineForm (getD ls j [])
@@ -87,14 +87,14 @@ module _ (input : List ℕ) where
   data Fate : Type 0 where
     many : 3000 < lead input → inputHands input ≡ handed 5 [] → Fate
     bad : lead input ≤ 3000 → lead input < length (lines input) → inputHands input ≡ handed 6 (suc (lead input) ∷ []) → Fate
-    fine : inputHands input ≡ handed 0 (length (lines input) ∷ []) → Fate
+    fine : lead input ≤ 3000 → length (lines input) ≤ lead input → inputHands input ≡ handed 0 (length (lines input) ∷ []) → Fate
 
   fate : Fate
   fate = by (decLe (suc (lead input)) (length (lines input))) (decLe (lead input) 3000)
     where
       by : Dec (suc (lead input) ≤ length (lines input)) → Dec (lead input ≤ 3000) → Fate
       by (yes m) (yes h) = bad h m (hands-bad h m)
-      by (no m) (yes h) = fine (hands-good h (omega arith))
+      by (no m) (yes h) = let l : length (lines input) ≤ lead input = omega arith in fine h l (hands-good h l)
       by m (no h) = let n : 3000 < lead input = omega arith in many n (hands-many n)
 
   number : {h h′ : Handed} → h ≡ h′ → h .number ≡ h′ .number
@@ -102,7 +102,7 @@ module _ (input : List ℕ) where
 
   said-bad : (k : ℕ) → Fate → inputHands input ≡ handed 6 (suc k ∷ []) → FirstBad input k
   said-bad k (many h e) p = absurd (let z : _≡_ {A = ℕ} 5 6 = sym (number e) ∙ number p in omega arith)
-  said-bad k (fine e) p = absurd (let z : _≡_ {A = ℕ} 0 6 = sym (number e) ∙ number p in omega arith)
+  said-bad k (fine h l e) p = absurd (let z : _≡_ {A = ℕ} 0 6 = sym (number e) ∙ number p in omega arith)
   said-bad k (bad h m e) p =
       let s : suc (lead input) ≡ suc k = ap (λ (x : Handed). getD (x .carries) 0 0) (sym e ∙ p) in
       let same : lead input ≡ k = omega arith in
@@ -121,7 +121,35 @@ module _ (input : List ℕ) where
   said-many : Fate → inputHands input ≡ handed 5 [] → OneTooMany input
   said-many (many h e) p = (omega (arith, within (lines input)), λ j i. leads (lines input) j (omega arith))
   said-many (bad h m e) p = absurd (let z : _≡_ {A = ℕ} 6 5 = sym (number e) ∙ number p in omega arith)
-  said-many (fine e) p = absurd (let z : _≡_ {A = ℕ} 0 5 = sym (number e) ∙ number p in omega arith)
+  said-many (fine h l e) p = absurd (let z : _≡_ {A = ℕ} 0 5 = sym (number e) ∙ number p in omega arith)
+
+  said-good : (k : ℕ) → Fate → inputHands input ≡ handed 0 (k ∷ []) → AllGood input k
+  said-good k (many h e) p = absurd (let z : _≡_ {A = ℕ} 5 0 = sym (number e) ∙ number p in omega arith)
+  said-good k (bad h m e) p = absurd (let z : _≡_ {A = ℕ} 6 0 = sym (number e) ∙ number p in omega arith)
+  said-good k (fine h l e) p =
+      let same : length (lines input) ≡ k = ap (λ (x : Handed). getD (x .carries) 0 0) (sym e ∙ p) in
+      (omega (arith, within (lines input)), same, λ j i. leads (lines input) j (omega arith))
+
+  is-good : (k : ℕ) → AllGood input k → inputHands input ≡ handed 0 (k ∷ [])
+  is-good k p =
+      let reached = reach (lines input) k (p .2) in
+      let top = within (lines input) in
+      hands-good (omega (arith, p .0, p .1)) (omega (arith, p .1)) ∙ ap (λ n. handed 0 (n ∷ [])) (p .1)
+
+  carries : Fate → inputHands input .number ≡ 6 → (k : ℕ) × (inputHands input ≡ handed 6 (suc k ∷ []))
+  carries (many h e) p = absurd (let z : _≡_ {A = ℕ} 5 6 = sym (number e) ∙ p in omega arith)
+  carries (fine h l e) p = absurd (let z : _≡_ {A = ℕ} 0 6 = sym (number e) ∙ p in omega arith)
+  carries (bad h m e) p = (lead input, e)
+
+  pub good-lines : (r : Judged) (k : ℕ) → Answers r (judgeInput input) numberOf (inputHands input)
+      → (numberOf r ≡ handed 0 (k ∷ [])) ↔ AllGood input k
+  good-lines r k a = (λ p. said-good k fate (sym (a .numbered) ∙ p), λ p. a .numbered ∙ is-good k p)
+
+  pub bad-carries : (r : Judged) → Answers r (judgeInput input) numberOf (inputHands input)
+      → numberOf r .number ≡ 6 → (k : ℕ) × (numberOf r ≡ handed 6 (suc k ∷ [])) × FirstBad input k
+  bad-carries r a p =
+      let c = carries fate (sym (number (a .numbered)) ∙ p) in
+      (c .0, a .numbered ∙ c .1, said-bad (c .0) fate (c .1))
 
   pub bad-line : (r : Judged) (k : ℕ) → Answers r (judgeInput input) numberOf (inputHands input)
       → (numberOf r ≡ handed 6 (suc k ∷ [])) ↔ FirstBad input k

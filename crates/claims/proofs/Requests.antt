@@ -13,9 +13,9 @@ pub requests : Requests
 unfolding clearRequest entryRequest requestOf
 requests =
     record {
-      erase = λ reservation. refl;
-      status = λ reservation. refl;
-      getEntry = λ reservation id. refl;
+      erase = λ reservation c e. rw e;
+      status = λ reservation c e. rw e;
+      getEntry = λ reservation id g e. rw e;
       none = λ command reservation argument a b. simp (le-leb 0x40 command a, le-leb command 0x42 b);
       bare = λ out left r w. (w .answered ∙ rw (le-leb 0 (length out) (omega arith)), w .leaves ∙ rw (le-leb 0 (length out) (omega arith)));
     }

@@ -18,7 +18,8 @@ use Rattle.event_data.specs.DataText.{data2Text, data3Text, dataText, joined, u
 use Rattle.event_data.specs.declared.EventData.{EventData}
 use Rattle.event_offset.specs.Event.{eventText, textsOf}
 use Rattle.event_offset.specs.Tables.{table-42-2, table-42-3}
-use Rattle.event_text.specs.Text.{entryText, eventTextOf}
+use Rattle.lent_texts.proofs.FilledGives.{filled-gives}
+use Rattle.event_text.specs.Text.{entryText}
 use Rattle.claims.specs.Texts.{DataTexts, EventTexts, TimeTexts, Writes}
 
 module _ (event sensor offset : ℕ) where
@@ -64,8 +65,10 @@ event-texts =
       none = no-text;
       genericTexts = (refl, refl);
       sensorTexts = (refl, refl);
-      ofSystem = λ entry e h. ap eventTextOf h;
-      ofOem = λ entry h. ap eventTextOf h;
+      ofSystem = λ id time generator revision sensor number direction event eventData. refl;
+      ofStamped = λ id type time maker. refl;
+      ofPlain = λ id type. refl;
+      filled = filled-gives;
     }
 
 said : (v : ℕ) (text : List ℕ) → (v ≡ 0xFF → ⊥) → unlessFFh v text ≡ text

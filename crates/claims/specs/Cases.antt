@@ -13,6 +13,7 @@ use Rattle.event_data.specs.declared.EventData2Type.{EventData2Type}
 use Rattle.event_data.specs.declared.EventData3Type.{EventData3Type}
 use Rattle.ids.specs.Ids.{recordId}
 use Rattle.sel.specs.declared.ParsedEntry.{ParsedEntry}
+use Rattle.sel_commands.specs.Answer.{numberOf}
 use Rattle.sel_commands.specs.declared.clear.ClearAnswer.{ClearAnswer}
 use Rattle.sel_commands.specs.declared.clear.ErasureProgress.{ErasureProgress}
 use Rattle.sel_commands.specs.declared.get_info.Info.{Info}
@@ -22,7 +23,7 @@ use Rattle.sel_commands.specs.declared.reserve.ReserveAnswer.{ReserveAnswer}
 use Rattle.capture.specs.Slots.{askedOf, nextOf}
 use Rattle.capture.specs.Walked.{Walked}
 use Rattle.capture.specs.declared.Verdict.{Verdict}
-use Rattle.claims.specs.Promises.{Answer, Promised, numberOf}
+use Rattle.claims.specs.Promises.{Promised}
 
 -- slots 0000h to 0001h and 0001h to FFFFh; and one slot 0000h to 0000h; with a place for each in the lent list
 pub record TwoSlots (s old : List ℕ) : Type 0 where

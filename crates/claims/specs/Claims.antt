@@ -1,11 +1,14 @@
--- What is claimed of the port, whole: the three demands, and the cases that its rules mark as proved. Assumes nothing.
+-- What is claimed of the port, whole: the three demands, the cases that its rules mark as proved, and what the header of the library for C says.
+-- Assumes nothing.
 use Rattle.claims.specs.Cases.{Cases}
 use Rattle.claims.specs.Demand1.{Demand1}
 use Rattle.claims.specs.Demand2.{Demand2}
 use Rattle.claims.specs.Demand3.{Demand3}
+use Rattle.claims.specs.Header.{Header}
 
 pub record Claims : Type 0 where
   pub demand1 : Demand1
   pub demand2 : Demand2
   pub demand3 : Demand3
   pub cases : Cases
+  pub header : Header

@@ -5,22 +5,27 @@ use mathlib.Core.Path.{_≡_}
 use mathlib.Core.Bool.{true, false}
 use mathlib.Core.List.{List, [], _∷_}
 use mathlib.Core.Logic.{_↔_, _⊎_}
-use lib.ListN.{length, getD}
+use lib.ListN.{length, getD, take}
 use Rattle.field.specs.Handed.{Answers, Handed, handed}
 use Rattle.text.specs.Room.{Room}
 use Rattle.text.specs.Written.{Wrote, numberOf as writtenNumber}
 use Rattle.text.specs.declared.Written.{Written}
 use Rattle.connection.specs.Channel.{validChannel}
 use Rattle.sel.specs.Rows.{Rows}
+use Rattle.sel_commands.specs.Answer.{Answer, numberOf}
+use Rattle.sel_commands.specs.BytesThatCount.{BytesThatCount}
+use Rattle.sel_commands.specs.Length.{bytesThatCount, lengthAnswer}
 use Rattle.sel_commands.specs.LengthDecides.{LengthDecides}
 use Rattle.sel_commands.specs.Rows.{Accepted, Invalid, NotEnough, Unknown, recordOf}
 use Rattle.sel_commands.specs.declared.length.AnswerKind.{AnswerKind}
+use Rattle.sel_commands.specs.declared.length.LengthAnswer.{LengthAnswer}
 use Rattle.capture.specs.Refusals.{Refusals}
 use Rattle.capture.specs.SlotsLength.{SlotsLength}
 use Rattle.capture.specs.Walked.{Walked, numberOf as walkNumber}
 use Rattle.capture.specs.declared.Verdict.{Verdict}
 use Rattle.flat_form.specs.Form.{Flat, Gives, taken, numberOf as flatNumber}
 use Rattle.flat_form.specs.declared.FlatAnswer.{FlatAnswer}
+use Rattle.flat.specs.Counts.{FlatCounts}
 use Rattle.flat.specs.Kinds.{flatOf}
 use Rattle.flat.specs.Rows.{FlatRows}
 use Rattle.flat.specs.declared.Kind.{Kind}
@@ -30,7 +35,7 @@ use Rattle.slot_line.specs.declared.Judged.{Judged}
 use Rattle.log.specs.Closing.{numberOf as logNumber}
 use Rattle.log.specs.Log.{Logged}
 use Rattle.log.specs.declared.Closing.{Closing}
-use Rattle.claims.specs.Promises.{Answer, Promised, numberOf}
+use Rattle.claims.specs.Promises.{Promised}
 
 -- 0h to Bh, Eh and Fh
 abbrev pub Valid : ℕ → Type 0
@@ -47,6 +52,10 @@ GoodLines input k = (j : ℕ) → j < k → fits lineForm (getD (lines input) j 
 -- at most 3,000 lines are, and the next, line number k from 0, is there and is not
 abbrev pub FirstBad : List ℕ → ℕ → Type 0
 FirstBad input k = (k ≤ 3000) × GoodLines input k × (k < length (lines input)) × (fits lineForm (getD (lines input) k []) ≡ false)
+
+-- there are k lines, at most 3,000, and all are
+abbrev pub AllGood : List ℕ → ℕ → Type 0
+AllGood input k = (k ≤ 3000) × (length (lines input) ≡ k) × GoodLines input k
 
 -- 3,001 lines are there, and good
 abbrev pub OneTooMany : List ℕ → Type 0
@@ -76,9 +85,15 @@ pub record Demand1 : Type 0 where
       → flatNumber r ≡ handed 4 (length bytes ∷ [])
   -- rows 4 and 5 of the walk
   pub walked : (s : List ℕ) (b : ℕ) (old : List ℕ) → Refusals s b old
-  -- row 6 of a capture as text: given exactly if a line is bad that at most 3,000 lines precede, all of them good, with its number, from 1
+  -- row 0 of a capture as text: accepted, with the number of its lines, exactly if there are so many, and all are good
+  pub goodLines : (input : List ℕ) (r : Judged) (k : ℕ) → Answers r (judgeInput input) inputNumber (inputHands input)
+      → (inputNumber r ≡ handed 0 (k ∷ [])) ↔ AllGood input k
+  -- row 6 of it: given exactly if a line is bad that at most 3,000 lines precede, all of them good, with its number, from 1
   pub badLine : (input : List ℕ) (r : Judged) (k : ℕ) → Answers r (judgeInput input) inputNumber (inputHands input)
       → (inputNumber r ≡ handed 6 (suc k ∷ [])) ↔ FirstBad input k
+  -- and every 6 carries such a line of that input
+  pub badCarries : (input : List ℕ) (r : Judged) → Answers r (judgeInput input) inputNumber (inputHands input)
+      → inputNumber r .number ≡ 6 → (k : ℕ) × (inputNumber r ≡ handed 6 (suc k ∷ [])) × FirstBad input k
   -- row 5 of it: exactly if there are 3,001 lines, and so many are good
   pub tooMany : (input : List ℕ) (r : Judged) → Answers r (judgeInput input) inputNumber (inputHands input)
       → (inputNumber r ≡ handed 5 []) ↔ OneTooMany input
@@ -92,3 +107,9 @@ pub record Demand1 : Type 0 where
   -- what a length alone decides, before there is a byte of the answer (README.md, "Can your library refuse a length ..")
   pub lengths : (kind : AnswerKind) (n : ℕ) → LengthDecides validChannel kind n
   pub slotsLengths : (len : ℕ) → SlotsLength len
+  -- and from above: so many bytes of an answer count, at most 18, whatever length a controller made up
+  pub counts : (kind : AnswerKind) (s : List ℕ) → BytesThatCount validChannel kind s
+  -- so whatever a parser answers of an answer whose length may be read, it answers of those bytes alone; and so does `flat`
+  pub cut : (kind : AnswerKind) (s : List ℕ) (r r′ : Answer kind) → lengthAnswer kind (length s) ≡ LengthAnswer.MayBeRead
+      → Promised kind r s → Promised kind r′ (take (bytesThatCount kind) s) → r ≡ r′
+  pub flatCut : (kind : AnswerKind) (s : List ℕ) → FlatCounts kind s

@@ -4,6 +4,7 @@ pub mod Demand1
 pub mod Demand2
 pub mod Demand3
 pub mod Fields
+pub mod Header
 pub mod Promises
 pub mod Requests
 pub mod Texts

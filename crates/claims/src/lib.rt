@@ -2,4 +2,5 @@
 // below that comes to promise less is refused here.
 pub mod answers;
 pub mod captures;
+pub mod library;
 pub mod writers;

@@ -3,7 +3,7 @@ import re
 import subprocess
 import sys
 
-MOST = 1000  # seconds for the must-fail edits of the base
+MOST = 1300  # seconds for the must-fail edits of the base
 
 run = subprocess.Popen(['rt', 'ci'], stdout=subprocess.PIPE, text=True)
 last, seconds, edits = '', 0, 0

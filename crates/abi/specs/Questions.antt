@@ -10,6 +10,7 @@ use Rattle.flat_form.specs.Form.{Flat}
 use Rattle.flat.specs.Kinds.{flatOf}
 use Rattle.flat.specs.declared.Kind.{Kind}
 use Rattle.flat_letters.specs.Letters.{letterFlat}
+use Rattle.abi.specs.declared.Named.{Named}
 
 -- what the bytes come to, read as the kind that the letter names; any other letter is no question
 unfoldable pub questionOf : ℕ → List ℕ → Flat
@@ -19,21 +20,26 @@ questionOf letter s =
     if eqb letter (code "a") then flatOf Kind.Allocation s else
     letterFlat letter s
 
--- what belongs to the kind of answer that the letter names, or to none of them
-unfoldable pub byKind : {A : Type 0} → (AnswerKind → A) → A → ℕ → A
-byKind of none letter =
-    if eqb letter (code "e") then of AnswerKind.Entry else
-    if eqb letter (code "g") then of AnswerKind.GetEntry else
-    if eqb letter (code "i") then of AnswerKind.Info else
-    if eqb letter (code "a") then of AnswerKind.Allocation else
-    if eqb letter (code "r") then of AnswerKind.Reserve else
-    if eqb letter (code "c") then of AnswerKind.Clear else
-    none
+-- the kind of answer that a letter names
+unfoldable pub kindNamed : ℕ → Named
+kindNamed letter =
+    if eqb letter (code "e") then Named.Kind AnswerKind.Entry else
+    if eqb letter (code "g") then Named.Kind AnswerKind.GetEntry else
+    if eqb letter (code "i") then Named.Kind AnswerKind.Info else
+    if eqb letter (code "a") then Named.Kind AnswerKind.Allocation else
+    if eqb letter (code "r") then Named.Kind AnswerKind.Reserve else
+    if eqb letter (code "c") then Named.Kind AnswerKind.Clear else
+    Named.Nothing
+
+-- what belongs to a kind, or to none
+abbrev pub byKind : {A : Type 0} → (AnswerKind → A) → A → Named → A
+byKind of none (Named.Kind kind) = of kind
+byKind of none Named.Nothing = none
 
 -- what the length alone decides of an answer of the kind that the letter names: 0 or 1; 255 for any other letter
 abbrev pub lengthNumber : ℕ → ℕ → ℕ
-lengthNumber letter n = byKind (λ kind. lengthHands kind n .number) 255 letter
+lengthNumber letter n = byKind (λ kind. lengthHands kind n .number) 255 (kindNamed letter)
 
 -- the bytes of it that count; 0 for any other letter
 abbrev pub letterBytes : ℕ → ℕ
-letterBytes letter = byKind bytesThatCount 0 letter
+letterBytes letter = byKind bytesThatCount 0 (kindNamed letter)

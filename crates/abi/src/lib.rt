@@ -24,7 +24,7 @@ ghost use Rattle.sel_commands.specs.Length.{lengthHands};
 ghost use Rattle.flat_requests.specs.Requests.{requestOf};
 ghost use Rattle.flat.specs.Kinds.{flatOf};
 ghost use Rattle.flat.specs.declared.Kind.{Kind};
-ghost use Rattle.abi.specs.Questions.{letterBytes, lengthNumber, questionOf};
+ghost use Rattle.abi.specs.Questions.{kindNamed, lengthNumber, letterBytes, questionOf};
 ghost use Rattle.abi.specs.Says.{Says, answerOf};
 
 // A letter, command or number that there is none of.
@@ -117,14 +117,29 @@ pub extern "C" fn sel_decode(kind: u8, data: &[u8], out: &mut [u8]) -> SelAnswer
 pub extern "C" fn sel_length(kind: u8, len: usize) -> u32
     ensures { λ r. ⌜ r ≡ lengthNumber kind len ⌝ }
 {
-    match kind {
-        b'e' => length_number(AnswerKind::Entry, len),
-        b'g' => length_number(AnswerKind::GetEntry, len),
-        b'i' => length_number(AnswerKind::Info, len),
-        b'a' => length_number(AnswerKind::Allocation, len),
-        b'r' => length_number(AnswerKind::Reserve, len),
-        b'c' => length_number(AnswerKind::Clear, len),
-        _ => NO_QUESTION,
+    let Named::Kind(named) = kind_named(kind) else {
+        return NO_QUESTION;
+    };
+    length_number(named, len)
+}
+
+// The kind of answer that a letter names.
+enum Named {
+    Kind(AnswerKind),
+    Nothing,
+}
+
+fn kind_named(letter: u8) -> Named
+    ensures { λ r. ⌜ r ≡ kindNamed letter ⌝ }
+{
+    match letter {
+        b'e' => Named::Kind(AnswerKind::Entry),
+        b'g' => Named::Kind(AnswerKind::GetEntry),
+        b'i' => Named::Kind(AnswerKind::Info),
+        b'a' => Named::Kind(AnswerKind::Allocation),
+        b'r' => Named::Kind(AnswerKind::Reserve),
+        b'c' => Named::Kind(AnswerKind::Clear),
+        _ => Named::Nothing,
     }
 }
 
@@ -142,15 +157,10 @@ fn length_number(kind: AnswerKind, len: usize) -> u32
 pub extern "C" fn sel_bytes_that_count(kind: u8) -> usize
     ensures { λ r. ⌜ r ≡ letterBytes kind ⌝ }
 {
-    match kind {
-        b'e' => bytes_that_count(AnswerKind::Entry),
-        b'g' => bytes_that_count(AnswerKind::GetEntry),
-        b'i' => bytes_that_count(AnswerKind::Info),
-        b'a' => bytes_that_count(AnswerKind::Allocation),
-        b'r' => bytes_that_count(AnswerKind::Reserve),
-        b'c' => bytes_that_count(AnswerKind::Clear),
-        _ => 0,
-    }
+    let Named::Kind(named) = kind_named(kind) else {
+        return 0;
+    };
+    bytes_that_count(named)
 }
 
 // The payload of a request. The argument is the record's id, or what Clear SEL is to do; a command that has no payload does not look at it.

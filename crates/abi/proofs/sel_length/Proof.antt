@@ -1,53 +1,20 @@
--- `sel_length` meets its contract: each letter has its own kind. Assumes nothing.
-use Rattle.abi.specs.Questions.{byKind}
-use Rattle.abi.proofs.Laws.{no-kind}
+-- `sel_length` meets its contract. Assumes nothing.
+use mathlib.Core.Path.{_∙_}
+use Rattle.sel_commands.specs.Length.{lengthHands}
+use Rattle.abi.proofs.Laws.{of-kind}
 use borrow.Author.Needs.{needs}
 use Rattle.abi.proofs.sel_length.Statement.{statement}
 use Rattle.abi.proofs.sel_length.Tie as tie
 
 returns : tie.Need-returns
-unfolding byKind
-returns c = rw (c .before .match .keys1) (c .length-number .ensures)
+returns c = of-kind (λ kind. lengthHands kind _ .number) 255 _ (c .before .before .kind-named .ensures) (c .enum-told .given .1)
 
 returns-2 : tie.Need-returns-2
-unfolding byKind
-returns-2 c = rw (c .before .match .keys2) (c .length-number2 .ensures)
-
-returns-3 : tie.Need-returns-3
-unfolding byKind
-returns-3 c = rw (c .before .match .keys3) (c .length-number3 .ensures)
-
-returns-4 : tie.Need-returns-4
-unfolding byKind
-returns-4 c = rw (c .before .match .keys4) (c .length-number4 .ensures)
-
-returns-5 : tie.Need-returns-5
-unfolding byKind
-returns-5 c = rw (c .before .match .keys5) (c .length-number5 .ensures)
-
-returns-6 : tie.Need-returns-6
-unfolding byKind
-returns-6 c = rw (c .before .match .keys6) (c .length-number6 .ensures)
-
-returns-7 : tie.Need-returns-7
-returns-7 c =
-    let r = c .match .rest in
-    no-kind _ _ (c .before .args .kind) (r .0 .0 .0 .0 .0 .1) (r .0 .0 .0 .0 .1) (r .0 .0 .0 .1) (r .0 .0 .1) (r .0 .1) (r .1)
+returns-2 c =
+    let named = c .before .before in
+    c .length-number .ensures ∙ of-kind (λ kind. lengthHands kind _ .number) 255 _ (named .before .before .kind-named .ensures) (named .named .given .1)
 
 pub sel-length-spec : {M : Type 1} → statement M
 sel-length-spec =
     tie.close
-    (tie.spec
-    (λ c κs. search needs)
-    (λ c κs. search needs)
-    (λ c κs. search needs)
-    (λ c κs. search needs)
-    (λ c κs. search needs)
-    (λ c κs. search needs)
-    returns
-    returns-2
-    returns-3
-    returns-4
-    returns-5
-    returns-6
-    returns-7)
+    (tie.spec (λ c κs. search needs) (λ c. search needs) (λ c. search needs) returns (λ c κs. search needs) returns-2)

@@ -196,9 +196,34 @@ fn length_answer(question: &[u8]) -> String {
     u8::from(!enough).to_string()
 }
 
-fn lengths() -> Row {
-    let questions = b"egiarc".iter().flat_map(|kind| (0..20).map(|length| vec![*kind, length, 0])).collect();
-    of_ours("length".into(), questions, 0, ours::length, (length_answer, answers::length))
+/// By include/sel.h's numbers.
+fn count_answer(question: &[u8]) -> String {
+    let bytes = match question[0] {
+        b'e' => 16,
+        b'g' => 18,
+        b'i' => 14,
+        b'a' => 9,
+        b'r' => 2,
+        _ => 1,
+    };
+    bytes.to_string()
+}
+
+fn slots_answer(question: &[u8]) -> String {
+    let length = word(question[0], question[1]);
+    (if length % 20 == 0 && length <= 60_000 { "0" } else { "5" }).into()
+}
+
+fn lengths() -> Vec<Row> {
+    let kinds = b"egiarc".iter();
+    let questions = kinds.clone().flat_map(|kind| (0..20).map(|length| vec![*kind, length, 0])).collect();
+    // Every other one is a multiple of 20, and the last are too long.
+    let captures = (0..256u16).map(|k| (k * 250).to_le_bytes().to_vec()).collect();
+    vec![
+        of_ours("length".into(), questions, 0, ours::length, (length_answer, answers::length)),
+        of_ours("bytes that count".into(), kinds.map(|kind| vec![*kind]).collect(), 0, ours::bytes_that_count, (count_answer, answers::bytes_that_count)),
+        of_ours("length of a capture".into(), captures, 0, ours::slots_length, (slots_answer, answers::slots_length)),
+    ]
 }
 
 pub fn rows() -> Vec<Row> {
@@ -207,7 +232,7 @@ pub fn rows() -> Vec<Row> {
     rows.extend(others(&records));
     rows.extend(texts(&records));
     rows.extend(requests(&records));
-    rows.push(lengths());
+    rows.extend(lengths());
     rows.extend(searches());
     rows
 }

@@ -31,22 +31,24 @@ pub struct Walk {
 
 #[link(name = "abi", kind = "static")]
 extern "C" {
-    fn sel_entry(data: *const u8, length: usize, out: *mut u8, room: usize) -> Answer;
-    fn sel_get_entry(data: *const u8, length: usize, out: *mut u8, room: usize) -> Answer;
-    fn sel_allocation(data: *const u8, length: usize, out: *mut u8, room: usize) -> Answer;
-    fn sel_decode(kind: u8, data: *const u8, length: usize, out: *mut u8, room: usize) -> Answer;
-    fn sel_length(kind: u8, length: usize) -> u32;
-    fn sel_event_text(event_type: u8, sensor_type: u8, offset: u8, out: *mut u8, room: usize) -> Answer;
-    fn sel_texts(store: *mut u8, bytes: usize, starts: *mut u16, s: usize, lengths: *mut u8, l: usize) -> Answer;
+    fn sel_entry(data: *const u8, data_length: usize, out: *mut u8, out_length: usize) -> Answer;
+    fn sel_get_entry(data: *const u8, data_length: usize, out: *mut u8, out_length: usize) -> Answer;
+    fn sel_allocation(data: *const u8, data_length: usize, out: *mut u8, out_length: usize) -> Answer;
+    fn sel_decode(kind: u8, data: *const u8, data_length: usize, out: *mut u8, out_length: usize) -> Answer;
+    fn sel_length(kind: u8, len: usize) -> u32;
+    fn sel_bytes_that_count(kind: u8) -> usize;
+    fn sel_event_text(event_type: u8, sensor_type: u8, offset: u8, out: *mut u8, out_length: usize) -> Answer;
+    fn sel_texts(store: *mut u8, store_length: usize, starts: *mut u16, starts_length: usize, lengths: *mut u8, lengths_length: usize) -> Answer;
     fn sel_event_text_from(
-        store: *const u8, bytes: usize, starts: *const u16, s: usize, lengths: *const u8, l: usize,
-        event_type: u8, sensor_type: u8, offset: u8, out: *mut u8, room: usize,
+        store: *const u8, store_length: usize, starts: *const u16, starts_length: usize, lengths: *const u8, lengths_length: usize,
+        event_type: u8, sensor_type: u8, offset: u8, out: *mut u8, out_length: usize,
     ) -> Answer;
-    fn sel_data_text(b1: u8, b2: u8, b3: u8, out: *mut u8, room: usize) -> Answer;
-    fn sel_time_text(time: u32, out: *mut u8, room: usize) -> Answer;
-    fn sel_request(command: u8, reservation: u16, argument: u16, out: *mut u8, room: usize) -> Answer;
-    fn sel_find(slots: *const u8, length: usize, id: u16) -> Found;
-    fn sel_walk(slots: *const u8, length: usize, budget: usize, list: *mut u16, places: usize) -> Walk;
+    fn sel_data_text(b1: u8, b2: u8, b3: u8, out: *mut u8, out_length: usize) -> Answer;
+    fn sel_time_text(time: u32, out: *mut u8, out_length: usize) -> Answer;
+    fn sel_request(command: u8, reservation: u16, argument: u16, out: *mut u8, out_length: usize) -> Answer;
+    fn sel_slots_length(len: usize) -> u32;
+    fn sel_find(slots: *const u8, slots_length: usize, id: u16) -> Found;
+    fn sel_walk(slots: *const u8, slots_length: usize, budget: usize, list: *mut u16, list_length: usize) -> Walk;
 }
 
 pub fn fill_store(room: &mut Room) {
@@ -131,6 +133,14 @@ calls! {
         let [kind, low, high] = *fixed(question);
         sel_length(kind, word(low, high) as usize)
     };
+    bytes_that_count, number: |question, room| {
+        let [kind] = *fixed(question);
+        sel_bytes_that_count(kind)
+    };
+    slots_length, number: |question, room| {
+        let [low, high] = *fixed(question);
+        sel_slots_length(word(low, high) as usize)
+    };
     // The last slot's id is 0000: every slot is tested.
     find, slot: |slots, room| sel_find(slots.as_ptr(), slots.len(), 0x0000);
     // With one lookup more than there are slots.
@@ -154,7 +164,7 @@ fn text(answer: Answer, room: &Room) -> String {
     refused_or(answer, room, |bytes| String::from_utf8(bytes.to_vec()).unwrap())
 }
 
-fn number(answer: u32, _: &Room) -> String {
+fn number(answer: impl ToString, _: &Room) -> String {
     answer.to_string()
 }
 

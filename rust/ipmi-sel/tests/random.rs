@@ -5,7 +5,7 @@ use std::fmt;
 use std::num::{NonZeroU16, NonZeroU8};
 
 use dice::Dice;
-use ipmi_sel::capture::{find, record_bytes, refused_length, walk, AnswerKind, Walk, WalkError, SLOT};
+use ipmi_sel::capture::{bytes_that_count, find, record_bytes, refused_length, refused_slots, walk, AnswerKind, Walk, WalkError, SLOT};
 use ipmi_sel::connection::{Channel, ChannelNumber, LogicalUnit};
 use ipmi_sel::storage::sdr::{decode_event, EventData, SensorType};
 use ipmi_sel::storage::sel::{
@@ -35,6 +35,14 @@ fn each_answer(mut test: impl FnMut(&[u8])) {
     }
 }
 
+/// The bytes that count, in a place of their own, are parsed as all of them are.
+fn check_cut<T: PartialEq + fmt::Debug>(kind: AnswerKind, bytes: &[u8], parse: impl Fn(&[u8]) -> T) {
+    if !refused_length(kind, bytes.len()) {
+        let cut: Box<[u8]> = bytes[..bytes_that_count(kind)].into();
+        assert_eq!(parse(&cut), parse(bytes));
+    }
+}
+
 fn each_bytes<const N: usize>(mut test: impl FnMut([u8; N])) {
     let mut dice = Dice::new(2);
     for _ in 0..CALLS {
@@ -56,6 +64,7 @@ fn entries() {
     each_answer(|bytes| {
         let entry = Entry::parse(bytes);
         assert_eq!(entry == Err(ParseEntryError::NotEnoughData), refused_length(AnswerKind::Entry, bytes.len()));
+        check_cut(AnswerKind::Entry, bytes, Entry::parse);
     });
 }
 
@@ -77,6 +86,8 @@ fn get_entries() {
         assert_eq!(info.as_ref().err() == Some(&ParseEntryError::NotEnoughData), refused);
         assert_eq!(record_bytes(bytes), if refused { &[] } else { &bytes[2..18] });
         assert_eq!(info.map(|info| info.entry).ok(), Entry::parse(record_bytes(bytes)).ok());
+        check_cut(AnswerKind::GetEntry, bytes, GetSelEntry::parse_success_response);
+        check_cut(AnswerKind::GetEntry, bytes, |bytes| record_bytes(bytes).to_vec());
     });
 }
 
@@ -86,6 +97,7 @@ fn infos() {
         let refused = refused_length(AnswerKind::Info, bytes.len());
         assert_eq!(GetSelInfo::parse_success_response(bytes).is_err(), refused);
         assert!(SelInfo::from_data(bytes).map_or(0, |info| info.supported_cmds.len()) <= 4);
+        check_cut(AnswerKind::Info, bytes, |bytes| format!("{:?}", SelInfo::from_data(bytes)));
     });
 }
 
@@ -96,6 +108,7 @@ fn allocations() {
         assert_eq!(SelGetAllocInfo::parse_success_response(bytes).is_err(), refused);
         assert_eq!(SelAllocInfo::parse(bytes).is_none(), refused);
         assert_eq!(AllocInfo::parse(bytes).is_none(), refused);
+        check_cut(AnswerKind::Allocation, bytes, |bytes| format!("{:?}", AllocInfo::parse(bytes)));
     });
 }
 
@@ -105,6 +118,8 @@ fn reservations_and_clearings() {
         let reservation = ReserveSel::parse_success_response(bytes);
         assert!(reservation.is_err() || !refused_length(AnswerKind::Reserve, bytes.len()));
         assert_eq!(ClearSel::parse_success_response(bytes).is_err(), refused_length(AnswerKind::Clear, bytes.len()));
+        check_cut(AnswerKind::Reserve, bytes, ReserveSel::parse_success_response);
+        check_cut(AnswerKind::Clear, bytes, ClearSel::parse_success_response);
     });
 }
 
@@ -164,7 +179,11 @@ fn lengths() {
         for kind in [Entry, GetEntry, Info, Allocation, Reserve, Clear] {
             // The longest answer that is too short has 17 bytes.
             assert!(refused_length(kind, length) == (kind == Info) || length < 18);
+            assert!(refused_length(kind, length) || length >= bytes_that_count(kind));
         }
+        let slots = length / SLOT;
+        assert_eq!(refused_slots(slots * SLOT), slots > 3000);
+        assert_eq!(refused_slots(length), length % SLOT != 0 || slots > 3000);
     }
 }
 
@@ -190,6 +209,7 @@ fn check_walk(dice: &mut Dice, slots: &[u8], budget: usize) {
     let places = (n + dice.below(4)).saturating_sub(1);
     let mut list = vec![0xEEEE; places].into_boxed_slice();
     let bad = slots.len() % SLOT != 0 || n > 3000;
+    assert_eq!(refused_slots(slots.len()), bad);
     let read = match walk(slots, budget, &mut list) {
         Ok(Walk { read, .. }) => {
             assert!(!bad && places >= n && read <= n.min(budget));

@@ -3,7 +3,7 @@
 use std::fmt;
 use std::num::{NonZeroU16, NonZeroU8};
 
-use ipmi_sel::capture::{find, record_bytes, refused_length, walk, AnswerKind, Verdict, Walk, WalkError};
+use ipmi_sel::capture::{bytes_that_count, find, record_bytes, refused_length, refused_slots, walk, AnswerKind, Verdict, Walk, WalkError};
 use ipmi_sel::connection::{Channel, ChannelNumber, LogicalUnit, NotEnoughData};
 use ipmi_sel::nonmax::NonMaxU8;
 use ipmi_sel::storage::sdr::{decode_event, EventData, EventData2Type, EventData3Type, SensorType};
@@ -267,6 +267,29 @@ fn lengths() {
         for (kind, refused) in refused {
             assert_eq!(refused_length(kind, length), refused, "{kind:?} {length}");
         }
+    }
+}
+
+#[test]
+fn bytes_of_answers() {
+    use AnswerKind::*;
+    for (kind, bytes) in [(Entry, 16), (GetEntry, 18), (Info, 14), (Allocation, 9), (Reserve, 2), (Clear, 1)] {
+        assert_eq!(bytes_that_count(kind), bytes, "{kind:?}");
+    }
+}
+
+#[test]
+fn lengths_of_captures() {
+    for length in 0..=60_100 {
+        assert_eq!(refused_slots(length), length % 20 != 0 || length > 60_000, "{length}");
+    }
+    // The second is a multiple of 20; so is the third, and its lower half is 20.
+    for length in [usize::MAX, usize::MAX - 15, 0x5_0000_0014] {
+        assert!(refused_slots(length), "{length}");
+    }
+    for length in [0, 1, 19, 20, 21, 59_980, 59_999, 60_000, 60_001, 60_020] {
+        let walked = walk(&vec![0; length], 0, &mut [0; 3000]);
+        assert_eq!(walked == Err(WalkError::BadCapture), refused_slots(length), "{length}");
     }
 }
 

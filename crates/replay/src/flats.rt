@@ -1,4 +1,5 @@
 // The kinds that the crate `flat` answers: all but the walk.
+use crate::same::same_answer;
 use crate::say::say;
 use crate::say::say_bytes;
 use crate::say::say_hex;
@@ -39,15 +40,28 @@ fn say_answer(answer: FlatAnswer, out: &[u8], text: bool) {
     }
 }
 
-// Answers with the flat bytes in hexadecimal, or with the text as it is.
-pub(crate) fn in_bytes(kind: Kind, data: &[u8]) {
-    let mut out = [0u8; ROOM];
+// Asks both ways, each into an array of its own. The whole arrays are compared, so that a byte that one way alone touched shows.
+fn ask(kind: Kind, letter: u8, data: &[u8], text: bool) {
+    let mut out = [0xEEu8; ROOM];
+    let mut sel_out = [0xEEu8; ROOM];
     let answer = flat::flat(kind, data, &mut out);
-    say_answer(answer, &out, false);
+    let sel = abi::sel_decode(letter, data, &mut sel_out);
+    if !same_answer(answer, sel) {
+        say(b"differs");
+        return;
+    }
+    if !check::same(&out, &sel_out) {
+        say(b"differs");
+        return;
+    }
+    say_answer(answer, &out, text);
 }
 
-pub(crate) fn in_text(kind: Kind, data: &[u8]) {
-    let mut out = [0u8; ROOM];
-    let answer = flat::flat(kind, data, &mut out);
-    say_answer(answer, &out, true);
+// Answers with the flat bytes in hexadecimal, or with the text as it is.
+pub(crate) fn in_bytes(kind: Kind, letter: u8, data: &[u8]) {
+    ask(kind, letter, data, false);
+}
+
+pub(crate) fn in_text(kind: Kind, letter: u8, data: &[u8]) {
+    ask(kind, letter, data, true);
 }

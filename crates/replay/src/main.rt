@@ -1,5 +1,8 @@
 // Answers questions in the flat form: one a line of standard input, one line of answer each. `stdin` and `stdout` are made by oracle/make.
+// Each is asked of the ported functions and of the library for C and Rust, so that the stored answers hold for both: where the two do not say
+// the same, the line is `differs`, which no stored answer is.
 mod flats;
+mod same;
 mod say;
 mod walks;
 mod words;
@@ -92,20 +95,20 @@ fn from_place(line: &[u8], at: usize) -> &[u8] {
 
 fn by_letter(letter: u8, data: &[u8]) {
     match letter {
-        b'e' => flats::in_bytes(Kind::Entry, data),
-        b'y' => flats::in_text(Kind::EntryText, data),
-        b'g' => flats::in_bytes(Kind::GetEntry, data),
-        b'p' => flats::in_bytes(Kind::RecordPart, data),
-        b'i' => flats::in_bytes(Kind::Info, data),
-        b'a' => flats::in_bytes(Kind::Allocation, data),
-        b'r' => flats::in_bytes(Kind::Reserve, data),
-        b'c' => flats::in_bytes(Kind::Clear, data),
-        b'd' => flats::in_bytes(Kind::EventData, data),
-        b'v' => flats::in_text(Kind::EventDataText, data),
-        b'x' => flats::in_text(Kind::EventText, data),
-        b't' => flats::in_text(Kind::TimeText, data),
-        b'n' => flats::in_bytes(Kind::RecordId, data),
-        b'q' => flats::in_bytes(Kind::Request, data),
+        b'e' => flats::in_bytes(Kind::Entry, letter, data),
+        b'y' => flats::in_text(Kind::EntryText, letter, data),
+        b'g' => flats::in_bytes(Kind::GetEntry, letter, data),
+        b'p' => flats::in_bytes(Kind::RecordPart, letter, data),
+        b'i' => flats::in_bytes(Kind::Info, letter, data),
+        b'a' => flats::in_bytes(Kind::Allocation, letter, data),
+        b'r' => flats::in_bytes(Kind::Reserve, letter, data),
+        b'c' => flats::in_bytes(Kind::Clear, letter, data),
+        b'd' => flats::in_bytes(Kind::EventData, letter, data),
+        b'v' => flats::in_text(Kind::EventDataText, letter, data),
+        b'x' => flats::in_text(Kind::EventText, letter, data),
+        b't' => flats::in_text(Kind::TimeText, letter, data),
+        b'n' => flats::in_bytes(Kind::RecordId, letter, data),
+        b'q' => flats::in_bytes(Kind::Request, letter, data),
         b'w' => walks::walk(data),
         _ => say(b"?"),
     }

@@ -6,7 +6,6 @@ use mathlib.Core.List.{List, []}
 use native.Mathlib.Omega.{arith}
 use borrow.Author.Tests.{eq-eqb}
 use lib.ListN.{length, take}
-use Rattle.field.specs.Bits.{Bytes}
 use Rattle.field.specs.Handed.{Handed, handed}
 use Rattle.connection.specs.Channel.{validChannel}
 use Rattle.sel_commands.specs.Length.{bytesThatCount, lengthAnswer, lengthHands, refusedLength}
@@ -22,7 +21,7 @@ use Rattle.capture.specs.Walked.{numberOf as walkedNumber}
 use Rattle.capture.specs.declared.SlotsAnswer.{SlotsAnswer}
 use Rattle.capture.specs.declared.Verdict.{Verdict}
 use Rattle.capture.proofs.SlotsLength.{slots-length}
-use Rattle.flat_form.specs.Form.{Flat, decided, flatAnswer, numberOf as flatNumber, taken}
+use Rattle.flat_form.specs.Form.{Flat, decided, flatAnswer, taken}
 use Rattle.flat_entry.specs.Records.{entryFlat, getEntryFlat}
 use Rattle.flat_answers.specs.Answers.{allocationFlat, clearFlat, infoFlat, reserveFlat}
 use Rattle.flat.specs.Kinds.{flatOf}
@@ -32,7 +31,7 @@ use Rattle.flat.proofs.Rows.{flat-rows}
 use Rattle.flat_letters.specs.Letters.{letterFlat}
 use Rattle.abi.specs.LengthSays.{LengthSays, SlotsSay, letterOf}
 use Rattle.abi.specs.Questions.{kindNamed, lengthNumber, letterBytes, questionOf}
-use Rattle.abi.specs.Says.{Says, answerOf}
+use Rattle.abi.specs.Says.{Says}
 use Rattle.abi.specs.Walks.{Walks, walkAnswer}
 use Rattle.abi.specs.declared.SelAnswer.{SelAnswer}
 use Rattle.abi.specs.declared.walk.SelWalk.{SelWalk}

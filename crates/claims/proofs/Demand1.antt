@@ -3,7 +3,7 @@ use Prim.Native.Nat.{ℕ, _≤_, _<_}
 use mathlib.Core.Path.{_≡_, refl, sym, ap, subst, _∙_}
 use mathlib.Core.Bool.{Bool, true, false, _||_}
 use mathlib.Core.List.{List, [], _∷_}
-use mathlib.Core.Logic.{_↔_, _⊎_, inl, inr}
+use mathlib.Core.Logic.{_↔_, inl, inr}
 use native.Mathlib.Omega.{arith}
 use native.Mathlib.Decide.{decLe, ℕ-discrete}
 use borrow.Author.Tests.{le-leb, lt-leb, ne-eqb}
@@ -42,12 +42,11 @@ use Rattle.flat.specs.Kinds.{flatOf}
 use Rattle.flat.specs.declared.Kind.{Kind}
 use Rattle.flat.proofs.Counts.{flat-counts}
 use Rattle.flat.proofs.Rows.{flat-rows, same}
-use Rattle.slot_line.specs.Input.{judgeInput, slotsOf}
+use Rattle.slot_line.specs.Input.{judgeInput}
 use Rattle.slot_line.specs.declared.Judged.{Judged}
 use Rattle.slot_line.proofs.Forms.{clash}
 use Rattle.log.specs.Closing.{numberOf as logNumber}
 use Rattle.log.specs.Log.{Logged, closingHands, handsBy, leftBy}
-use Rattle.log.specs.Verdict.{slotsRead}
 use Rattle.log.specs.declared.Closing.{Closing}
 use Rattle.claims.specs.Demand1.{Demand1, OneOf, Valid}
 use Rattle.claims.specs.Promises.{Promised}

@@ -1,12 +1,12 @@
 -- The fields of every good answer. Assumes nothing.
-use Prim.Native.Nat.{ℕ, _+_, _*_, _/_, _%_, _≤_, _<_}
+use Prim.Native.Nat.{ℕ, _+_, _/_, _%_, _≤_, _<_}
 use mathlib.Core.Path.{_≡_, refl, sym, ap, subst, _∙_}
 use mathlib.Core.Bool.{Bool, true, false}
 use mathlib.Core.List.{List, [], _∷_, _++_}
 use mathlib.Core.Logic.{_↔_}
 use native.Mathlib.Omega.{arith}
 use borrow.Author.Tests.{eq-eqb, eqb-true, le-leb, le-ltb, lt-leb, lt-ltb, ne-eqb}
-use lib.Dec.{eqb, leb, ltb}
+use lib.Dec.{eqb, ltb}
 use lib.Seq.{drop-at, take-at}
 use lib.ListN.{length, drop, take, length-drop, length-take, replicate}
 use Rattle.field.specs.Bits.{byteAt, bits, bytesAt, le16At, le24At, le32At}
@@ -38,7 +38,7 @@ use Rattle.get_entry.specs.declared.EntryInfo.{EntryInfo}
 use Rattle.get_entry.specs.declared.EntryInfoAnswer.{EntryInfoAnswer}
 use Rattle.get_entry.specs.declared.ParsedEntryInfo.{ParsedEntryInfo}
 use Rattle.sel_commands.specs.Clear.{parseClear}
-use Rattle.sel_commands.specs.Info.{bitOf, howMany, infoAt, parseInfo, supported}
+use Rattle.sel_commands.specs.Info.{howMany, infoAt, parseInfo}
 use Rattle.sel_commands.specs.Reserve.{parseReserve}
 use Rattle.sel_commands.specs.declared.clear.ClearAnswer.{ClearAnswer}
 use Rattle.sel_commands.specs.declared.clear.ErasureProgress.{ErasureProgress}

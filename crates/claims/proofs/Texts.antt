@@ -1,25 +1,21 @@
 -- The texts, and that they are written. Assumes nothing.
-use Prim.Native.Nat.{ℕ, zero, suc, _≤_, _<_}
-use mathlib.Core.Path.{_≡_, refl, sym, ap, _∙_}
-use mathlib.Core.Bool.{Bool, true, false}
+use Prim.Native.Nat.{ℕ, zero, suc, _≤_}
+use mathlib.Core.Path.{_≡_, refl, ap, _∙_}
+use mathlib.Core.Bool.{false}
 use mathlib.Core.List.{List, [], _∷_, _++_}
 use native.Mathlib.Omega.{arith}
-use borrow.Author.Tests.{eq-eqb, eqb-true, le-leb, ne-eqb}
+use borrow.Author.Tests.{eq-eqb, le-leb, ne-eqb}
 use lib.Dec.{eqb}
 use lib.ListN.{length, drop, getD, take}
 use lib.Seq.{drop-at, take-at}
 use Rattle.field.specs.Bits.{bits}
 use Rattle.field.specs.Choose.{if_then_else_}
 use Rattle.text.specs.Text.{bytes}
-use Rattle.text.specs.Written.{Wrote}
-use Rattle.text.specs.declared.Written.{Written}
 use Rattle.storage.specs.Time.{timeText}
 use Rattle.event_data.specs.DataText.{data2Text, data3Text, dataText, joined, unlessFFh}
-use Rattle.event_data.specs.declared.EventData.{EventData}
 use Rattle.event_offset.specs.Event.{eventText, textsOf}
 use Rattle.event_offset.specs.Tables.{table-42-2, table-42-3}
 use Rattle.lent_texts.proofs.FilledGives.{filled-gives}
-use Rattle.event_text.specs.Text.{entryText}
 use Rattle.claims.specs.Texts.{DataTexts, EventTexts, TimeTexts, Writes}
 
 module _ (event sensor offset : ℕ) where

@@ -40,8 +40,9 @@ fn say_answer(answer: FlatAnswer, out: &[u8], text: bool) {
     }
 }
 
-// Asks both ways, each into an array of its own. The whole arrays are compared, so that a byte that one way alone touched shows.
-fn ask(kind: Kind, letter: u8, data: &[u8], text: bool) {
+// Asks both ways, each into an array of its own, and answers with the flat bytes in hexadecimal, or with a text as it is. The whole arrays are
+// compared, so that a byte that one way alone touched shows.
+pub(crate) fn ask(kind: Kind, letter: u8, data: &[u8], text: bool) {
     let mut out = [0xEEu8; ROOM];
     let mut sel_out = [0xEEu8; ROOM];
     let answer = flat::flat(kind, data, &mut out);
@@ -55,13 +56,4 @@ fn ask(kind: Kind, letter: u8, data: &[u8], text: bool) {
         return;
     }
     say_answer(answer, &out, text);
-}
-
-// Answers with the flat bytes in hexadecimal, or with the text as it is.
-pub(crate) fn in_bytes(kind: Kind, letter: u8, data: &[u8]) {
-    ask(kind, letter, data, false);
-}
-
-pub(crate) fn in_text(kind: Kind, letter: u8, data: &[u8]) {
-    ask(kind, letter, data, true);
 }

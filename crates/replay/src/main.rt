@@ -1,5 +1,5 @@
 // Answers questions in the flat form: one a line of standard input, one line of answer each. `stdin` and `stdout` are made by oracle/make.
-// Each is asked of the ported functions and of the library for C and Rust, so that the stored answers hold for both: where the two do not say
+// Each letter is asked of the ported functions and of the library for C and Rust, so that the stored answers hold for both: where the two do not say
 // the same, the line is `differs`, which no stored answer is.
 mod flats;
 mod same;
@@ -95,20 +95,20 @@ fn from_place(line: &[u8], at: usize) -> &[u8] {
 
 fn by_letter(letter: u8, data: &[u8]) {
     match letter {
-        b'e' => flats::in_bytes(Kind::Entry, letter, data),
-        b'y' => flats::in_text(Kind::EntryText, letter, data),
-        b'g' => flats::in_bytes(Kind::GetEntry, letter, data),
-        b'p' => flats::in_bytes(Kind::RecordPart, letter, data),
-        b'i' => flats::in_bytes(Kind::Info, letter, data),
-        b'a' => flats::in_bytes(Kind::Allocation, letter, data),
-        b'r' => flats::in_bytes(Kind::Reserve, letter, data),
-        b'c' => flats::in_bytes(Kind::Clear, letter, data),
-        b'd' => flats::in_bytes(Kind::EventData, letter, data),
-        b'v' => flats::in_text(Kind::EventDataText, letter, data),
-        b'x' => flats::in_text(Kind::EventText, letter, data),
-        b't' => flats::in_text(Kind::TimeText, letter, data),
-        b'n' => flats::in_bytes(Kind::RecordId, letter, data),
-        b'q' => flats::in_bytes(Kind::Request, letter, data),
+        b'e' => flats::ask(Kind::Entry, letter, data, false),
+        b'y' => flats::ask(Kind::EntryText, letter, data, true),
+        b'g' => flats::ask(Kind::GetEntry, letter, data, false),
+        b'p' => flats::ask(Kind::RecordPart, letter, data, false),
+        b'i' => flats::ask(Kind::Info, letter, data, false),
+        b'a' => flats::ask(Kind::Allocation, letter, data, false),
+        b'r' => flats::ask(Kind::Reserve, letter, data, false),
+        b'c' => flats::ask(Kind::Clear, letter, data, false),
+        b'd' => flats::ask(Kind::EventData, letter, data, false),
+        b'v' => flats::ask(Kind::EventDataText, letter, data, true),
+        b'x' => flats::ask(Kind::EventText, letter, data, true),
+        b't' => flats::ask(Kind::TimeText, letter, data, true),
+        b'n' => flats::ask(Kind::RecordId, letter, data, false),
+        b'q' => flats::ask(Kind::Request, letter, data, false),
         b'w' => walks::walk(data),
         _ => say(b"?"),
     }

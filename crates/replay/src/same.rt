@@ -2,8 +2,6 @@
 use abi::SelAnswer;
 use abi::SelWalk;
 use capture::Verdict;
-use connection::NewChannel;
-use connection::NewUnit;
 use flat_form::FlatAnswer;
 
 fn says(sel: SelAnswer, number: u32, value: u8, length: usize) -> bool {
@@ -24,20 +22,6 @@ pub(crate) fn same_answer(answer: FlatAnswer, sel: SelAnswer) -> bool {
         FlatAnswer::InvalidChannel(n) => says(sel, 3, n, 0),
         FlatAnswer::NoRoom(n) => says(sel, 4, 0, n),
         FlatAnswer::NoQuestion => says(sel, 255, 0, 0),
-    }
-}
-
-pub(crate) fn same_channel(channel: NewChannel, sel: SelAnswer) -> bool {
-    match channel {
-        NewChannel::Valid(c) => says(sel, 0, c.value(), 0),
-        NewChannel::Invalid(n) => says(sel, 3, n, 0),
-    }
-}
-
-pub(crate) fn same_unit(unit: NewUnit, sel: SelAnswer) -> bool {
-    match unit {
-        NewUnit::Valid(u) => says(sel, 0, u.value(), 0),
-        NewUnit::Invalid => says(sel, 255, 0, 0),
     }
 }
 

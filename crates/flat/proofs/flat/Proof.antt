@@ -4,46 +4,46 @@ use Rattle.flat.proofs.flat.Statement.{statement}
 use Rattle.flat.proofs.flat.Tie as tie
 
 returns : tie.Need-returns
-returns c = rw (c .before .before .before .before .enum-told .given .1) (c .before .before .entry .ensures)
+returns c = rw (c .before .before .before .before .enum-told .given .1) (search needs)
 
 returns-2 : tie.Need-returns-2
-returns-2 c = rw (c .before .before .before .before .enum-told2 .given .1) (c .before .before .entry-text .ensures)
+returns-2 c = rw (c .before .before .before .before .enum-told2 .given .1) (search needs)
 
 returns-3 : tie.Need-returns-3
-returns-3 c = rw (c .before .before .before .before .enum-told3 .given .1) (c .before .before .get-entry .ensures)
+returns-3 c = rw (c .before .before .before .before .enum-told3 .given .1) (search needs)
 
 returns-4 : tie.Need-returns-4
-returns-4 c = rw (c .before .before .before .before .enum-told4 .given .1) (c .before .before .record-part .ensures)
+returns-4 c = rw (c .before .before .before .before .enum-told4 .given .1) (search needs)
 
 returns-5 : tie.Need-returns-5
-returns-5 c = rw (c .before .before .before .before .enum-told5 .given .1) (c .before .before .info .ensures)
+returns-5 c = rw (c .before .before .before .before .enum-told5 .given .1) (search needs)
 
 returns-6 : tie.Need-returns-6
-returns-6 c = rw (c .before .before .before .before .enum-told6 .given .1) (c .before .before .allocation .ensures)
+returns-6 c = rw (c .before .before .before .before .enum-told6 .given .1) (search needs)
 
 returns-7 : tie.Need-returns-7
-returns-7 c = rw (c .before .before .before .before .enum-told7 .given .1) (c .before .before .reserve .ensures)
+returns-7 c = rw (c .before .before .before .before .enum-told7 .given .1) (search needs)
 
 returns-8 : tie.Need-returns-8
-returns-8 c = rw (c .before .before .before .before .enum-told8 .given .1) (c .before .before .clear .ensures)
+returns-8 c = rw (c .before .before .before .before .enum-told8 .given .1) (search needs)
 
 returns-9 : tie.Need-returns-9
-returns-9 c = rw (c .before .before .before .before .enum-told9 .given .1) (c .before .before .event-data .ensures)
+returns-9 c = rw (c .before .before .before .before .enum-told9 .given .1) (search needs)
 
 returns-10 : tie.Need-returns-10
-returns-10 c = rw (c .before .before .before .before .enum-told10 .given .1) (c .before .before .event-data-text .ensures)
+returns-10 c = rw (c .before .before .before .before .enum-told10 .given .1) (search needs)
 
 returns-11 : tie.Need-returns-11
-returns-11 c = rw (c .before .before .before .before .enum-told11 .given .1) (c .before .before .event-text .ensures)
+returns-11 c = rw (c .before .before .before .before .enum-told11 .given .1) (search needs)
 
 returns-12 : tie.Need-returns-12
-returns-12 c = rw (c .before .before .before .before .enum-told12 .given .1) (c .before .before .time-text .ensures)
+returns-12 c = rw (c .before .before .before .before .enum-told12 .given .1) (search needs)
 
 returns-13 : tie.Need-returns-13
-returns-13 c = rw (c .before .before .before .before .enum-told13 .given .1) (c .before .before .record-id .ensures)
+returns-13 c = rw (c .before .before .before .before .enum-told13 .given .1) (search needs)
 
 returns-14 : tie.Need-returns-14
-returns-14 c = rw (c .before .before .before .before .enum-told14 .given .1) (c .before .before .request .ensures)
+returns-14 c = rw (c .before .before .before .before .enum-told14 .given .1) (search needs)
 
 pub flat-spec : {M : Type 1} → statement M
 flat-spec =

@@ -3,7 +3,7 @@
  * Each function is proved to keep the promise in its comment, for all arguments. A slice is a pointer and its number of elements. A caller can
  * do nothing wrong but lend a bad pointer: the elements must be there, aligned, and for a slice that is written they may not lie in another slice
  * of the same call. The pointer of an empty slice may be NULL (this is tested, not proved). Nothing lent is kept, nothing outside it is read or written, nothing is
- * allocated, and every call ends.
+ * allocated, and every call ends. The statements: crates/abi has each contract, `Header` of crates/claims what is said here beyond them.
  *
  * Numbers handed back (docs/SCOPE.md): 0 accepted, 1 not enough data, 2 unknown record type, 3 invalid channel, 4 no room, 5 bad capture;
  * 255 no such letter, command or number, or not the bytes of one. Where the number is not 0, every lent slice is as it was. Where it is 0, what
@@ -80,7 +80,7 @@ size_t sel_bytes_that_count(uint8_t kind);
 /* The longest text of an event. */
 #define SEL_EVENT_TEXT 70
 
-/* Writes the text of an event, of at most SEL_EVENT_TEXT (70) bytes, ASCII, without a NUL. Of the event type bit 7 does not count, of the offset
+/* Writes the text of an event, of at most SEL_EVENT_TEXT (70) bytes, all printable ASCII. Of the event type bit 7 does not count, of the offset
  * bits 7 to 4. An event that has no text is accepted with length 0. 4 where out is shorter than the text. */
 SelAnswer sel_event_text(uint8_t event_type, uint8_t sensor_type, uint8_t offset, uint8_t *out, size_t out_length);
 

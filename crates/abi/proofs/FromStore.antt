@@ -14,7 +14,7 @@ use Rattle.abi.specs.Says.{Says, answerOf}
 use Rattle.abi.specs.declared.SelAnswer.{SelAnswer}
 
 -- the number of what is filled, in both forms of the answer
-number-is : (w : Written) → answerOf (fromWritten w) .number ≡ numberOf w .number
+pub number-is : (w : Written) → answerOf (fromWritten w) .number ≡ numberOf w .number
 number-is (Written.Length n) = refl
 number-is (Written.NoRoom n) = refl
 

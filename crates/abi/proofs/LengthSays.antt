@@ -115,7 +115,7 @@ module _ (kind : AnswerKind) (n : ℕ) where
   }
 
 -- the walk's number, in both forms of its answer
-walk-number : (v : Verdict) → walkAnswer v .number ≡ walkedNumber v .number
+pub walk-number : (v : Verdict) → walkAnswer v .number ≡ walkedNumber v .number
 walk-number (Verdict.Ended read) = refl
 walk-number (Verdict.Missing ask read) = refl
 walk-number (Verdict.Spent ask read) = refl

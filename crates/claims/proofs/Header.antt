@@ -1,9 +1,41 @@
 -- What include/sel.h says, from the proofs of abi. Assumes nothing.
-use Rattle.abi.proofs.FromStore.{from-store}
-use Rattle.abi.proofs.LengthSays.{length-says, slots-say}
+use Prim.Native.Nat.{ℕ}
+use mathlib.Core.Path.{_≡_, sym, ap, _∙_}
+use mathlib.Core.List.{List}
+use lib.ListN.{length}
+use Rattle.event_offset.proofs.Holding.{lent}
+use Rattle.lent_texts.specs.Fills.{fillAnswer}
+use Rattle.capture.specs.Walk.{walkOf}
+use Rattle.capture.proofs.Refusals.{refusals}
+use Rattle.abi.specs.Filled.{Filled}
+use Rattle.abi.specs.Walks.{Walks}
+use Rattle.abi.specs.declared.SelAnswer.{SelAnswer}
+use Rattle.abi.specs.declared.walk.SelWalk.{SelWalk}
+use Rattle.abi.proofs.FromStore.{from-store, number-is}
+use Rattle.abi.proofs.LengthSays.{length-says, slots-say, walk-number}
 use Rattle.abi.proofs.Sizes.{sizes}
 use Rattle.abi.proofs.Untouched.{one-answer, untouched}
 use Rattle.claims.specs.Header.{Header}
 
+unfilled : (a b c : List ℕ) (f : SelAnswer) (store starts lengths : List ℕ) → Filled a b c f store starts lengths → (f .number ≡ 0 → ⊥)
+    → (store ≡ a) × (starts ≡ b) × (lengths ≡ c)
+unfilled a b c f store starts lengths p z =
+    p .leaves .untouched (λ n. z (ap (λ (x : SelAnswer). x .number) (p .answered) ∙ number-is (fillAnswer (length a) (length b) (length c)) ∙ n))
+
+unlisted : (s : List ℕ) (b : ℕ) (old left : List ℕ) (r : SelWalk) → Walks s b old r left → (r .number ≡ 0 → ⊥) → left ≡ old
+unlisted s b old left r w z =
+    w .leaves ∙ refusals s b old .untouched (λ n. z (ap (λ (x : SelWalk). x .number) (w .answered) ∙ walk-number (walkOf s b (length old)) ∙ n))
+
 pub header : Header
-header = record { untouched = untouched; one = one-answer; lengths = length-says; slots = slots-say; sizes = sizes; fromStore = from-store }
+header =
+    record {
+      untouched = untouched;
+      one = one-answer;
+      unfilled = unfilled;
+      unlisted = unlisted;
+      lengths = length-says;
+      slots = slots-say;
+      sizes = sizes;
+      printable = lent .printable;
+      fromStore = from-store;
+    }

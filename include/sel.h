@@ -3,7 +3,7 @@
  * Each function is proved to keep the promise in its comment, for all arguments. A slice is a pointer and its number of elements. A caller can
  * do nothing wrong but lend a bad pointer: the elements must be there, aligned, and for a slice that is written they may not lie in another slice
  * of the same call. The pointer of an empty slice may be NULL (this is tested, not proved). Nothing lent is kept, nothing outside it is read or written, nothing is
- * allocated, and every call ends. The statements: crates/abi has each contract, `Header` of crates/claims what is said here beyond them.
+ * allocated, and every call ends. The statements: crates/abi has each contract, crates/claims what is said here beyond them.
  *
  * Numbers handed back (docs/SCOPE.md): 0 accepted, 1 not enough data, 2 unknown record type, 3 invalid channel, 4 no room, 5 bad capture;
  * 255 no such letter, command or number, or not the bytes of one. Where the number is not 0, every lent slice is as it was. Where it is 0, what
@@ -77,7 +77,7 @@ uint32_t sel_length(uint8_t kind, size_t len);
  * at most 18 bytes, allocates for no length that a controller made up, and loses nothing. */
 size_t sel_bytes_that_count(uint8_t kind);
 
-/* The longest text of an event. */
+/* A text of an event has at most so many bytes. */
 #define SEL_EVENT_TEXT 70
 
 /* Writes the text of an event, of at most SEL_EVENT_TEXT (70) bytes, all printable ASCII. Of the event type bit 7 does not count, of the offset
@@ -101,20 +101,20 @@ SelAnswer sel_event_text_from(const uint8_t *store, size_t store_length, const u
                               const uint8_t *lengths, size_t lengths_length,
                               uint8_t event_type, uint8_t sensor_type, uint8_t offset, uint8_t *out, size_t out_length);
 
-/* The longest text of event data. */
+/* A text of event data has at most so many bytes. */
 #define SEL_DATA_TEXT 26
 
 /* Writes the text of event data, bytes 13 to 15 of a system event, of at most SEL_DATA_TEXT (26) bytes, as `reading=90, threshold=85` or
  * `oem2=0x17`; empty where neither byte is specified. 4 where out is shorter. */
 SelAnswer sel_data_text(uint8_t b1, uint8_t b2, uint8_t b3, uint8_t *out, size_t out_length);
 
-/* The longest text of a time. */
+/* A text of a time has at most so many bytes. */
 #define SEL_TIME_TEXT 10
 
 /* Writes a time, at most SEL_TIME_TEXT (10) bytes: `Unknown` for 0, else in decimal. 4 where out is shorter. */
 SelAnswer sel_time_text(uint32_t time, uint8_t *out, size_t out_length);
 
-/* The longest payload of a request. */
+/* A payload of a request has at most so many bytes. */
 #define SEL_REQUEST 6
 
 /* Writes the payload of a request, of at most SEL_REQUEST (6) bytes. A reservation of 0 is none.

@@ -24,9 +24,9 @@ use Rattle.flat_letters.specs.Letters.{letterFlat}
 use Rattle.flat_form.proofs.Laws.{gives-is, gives-written}
 use Rattle.lent_texts.specs.Fills.{Fills}
 use Rattle.abi.specs.Filled.{Filled}
-use Rattle.abi.specs.Questions.{byKind, kindNamed, questionOf}
+use Rattle.abi.specs.Questions.{byKind, askedKind, questionOf}
 use Rattle.abi.specs.Says.{Says, answerOf, named, numberOf, said, unitHands}
-use Rattle.abi.specs.declared.Named.{Named}
+use Rattle.abi.specs.declared.AskedKind.{AskedKind}
 use Rattle.abi.specs.declared.SelAnswer.{SelAnswer}
 
 pub same-number : (a : FlatAnswer) → numberOf (answerOf a) ≡ flatNumber a
@@ -60,13 +60,13 @@ unfolding questionOf
 by-letter k s e g a = rw (ne-eqb k (code "e") e, ne-eqb k (code "g") g, ne-eqb k (code "a") a)
 
 pub no-kind : (k : ℕ) → (k ≡ code "e" → ⊥) → (k ≡ code "g" → ⊥) → (k ≡ code "i" → ⊥) → (k ≡ code "a" → ⊥) → (k ≡ code "r" → ⊥) → (k ≡ code "c" → ⊥)
-    → Named.Nothing ≡ kindNamed k
-unfolding kindNamed
+    → AskedKind.Unknown ≡ askedKind k
+unfolding askedKind
 no-kind k e g i a r c =
     rw (ne-eqb k (code "e") e, ne-eqb k (code "g") g, ne-eqb k (code "i") i, ne-eqb k (code "a") a, ne-eqb k (code "r") r, ne-eqb k (code "c") c)
 
 -- what belongs to the kind that was named
-pub of-kind : {A : Type 0} (of : AnswerKind → A) (none : A) (k : ℕ) {r n : Named} → r ≡ kindNamed k → r ≡ n → byKind of none n ≡ byKind of none (kindNamed k)
+pub of-kind : {A : Type 0} (of : AnswerKind → A) (none : A) (k : ℕ) {r n : AskedKind} → r ≡ askedKind k → r ≡ n → byKind of none n ≡ byKind of none (askedKind k)
 of-kind of none k p e = ap (byKind of none) (sym e ∙ p)
 
 -- the number of what was answered, and then told apart

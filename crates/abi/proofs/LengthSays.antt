@@ -30,7 +30,7 @@ use Rattle.flat.proofs.Counts.{flat-counts}
 use Rattle.flat.proofs.Rows.{flat-rows}
 use Rattle.flat_letters.specs.Letters.{letterFlat}
 use Rattle.abi.specs.LengthSays.{LengthSays, SlotsSay, letterOf}
-use Rattle.abi.specs.Questions.{kindNamed, lengthNumber, letterBytes, questionOf}
+use Rattle.abi.specs.Questions.{askedKind, lengthNumber, letterBytes, questionOf}
 use Rattle.abi.specs.Says.{Says}
 use Rattle.abi.specs.Walks.{Walks, walkAnswer}
 use Rattle.abi.specs.declared.SelAnswer.{SelAnswer}
@@ -47,7 +47,7 @@ question-is AnswerKind.Reserve s = refl
 question-is AnswerKind.Clear s = refl
 
 bytes-are : (kind : AnswerKind) → letterBytes (letterOf kind) ≡ bytesThatCount kind
-unfolding kindNamed
+unfolding askedKind
 bytes-are AnswerKind.Entry = refl
 bytes-are AnswerKind.GetEntry = refl
 bytes-are AnswerKind.Info = refl
@@ -56,7 +56,7 @@ bytes-are AnswerKind.Reserve = refl
 bytes-are AnswerKind.Clear = refl
 
 length-is : (kind : AnswerKind) (n : ℕ) → lengthNumber (letterOf kind) n ≡ lengthHands kind n .number
-unfolding kindNamed
+unfolding askedKind
 length-is AnswerKind.Entry n = refl
 length-is AnswerKind.GetEntry n = refl
 length-is AnswerKind.Info n = refl

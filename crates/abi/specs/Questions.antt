@@ -10,7 +10,7 @@ use Rattle.flat_form.specs.Form.{Flat}
 use Rattle.flat.specs.Kinds.{flatOf}
 use Rattle.flat.specs.declared.Kind.{Kind}
 use Rattle.flat_letters.specs.Letters.{letterFlat}
-use Rattle.abi.specs.declared.Named.{Named}
+use Rattle.abi.specs.declared.AskedKind.{AskedKind}
 
 -- what the bytes come to, read as the kind that the letter names; any other letter is no question
 unfoldable pub questionOf : ℕ → List ℕ → Flat
@@ -21,25 +21,25 @@ questionOf letter s =
     letterFlat letter s
 
 -- the kind of answer that a letter names
-unfoldable pub kindNamed : ℕ → Named
-kindNamed letter =
-    if eqb letter (code "e") then Named.Kind AnswerKind.Entry else
-    if eqb letter (code "g") then Named.Kind AnswerKind.GetEntry else
-    if eqb letter (code "i") then Named.Kind AnswerKind.Info else
-    if eqb letter (code "a") then Named.Kind AnswerKind.Allocation else
-    if eqb letter (code "r") then Named.Kind AnswerKind.Reserve else
-    if eqb letter (code "c") then Named.Kind AnswerKind.Clear else
-    Named.Nothing
+unfoldable pub askedKind : ℕ → AskedKind
+askedKind letter =
+    if eqb letter (code "e") then AskedKind.Known AnswerKind.Entry else
+    if eqb letter (code "g") then AskedKind.Known AnswerKind.GetEntry else
+    if eqb letter (code "i") then AskedKind.Known AnswerKind.Info else
+    if eqb letter (code "a") then AskedKind.Known AnswerKind.Allocation else
+    if eqb letter (code "r") then AskedKind.Known AnswerKind.Reserve else
+    if eqb letter (code "c") then AskedKind.Known AnswerKind.Clear else
+    AskedKind.Unknown
 
 -- what belongs to a kind, or to none
-abbrev pub byKind : {A : Type 0} → (AnswerKind → A) → A → Named → A
-byKind of none (Named.Kind kind) = of kind
-byKind of none Named.Nothing = none
+abbrev pub byKind : {A : Type 0} → (AnswerKind → A) → A → AskedKind → A
+byKind of none (AskedKind.Known kind) = of kind
+byKind of none AskedKind.Unknown = none
 
 -- what the length alone decides of an answer of the kind that the letter names: 0 or 1; 255 for any other letter
 abbrev pub lengthNumber : ℕ → ℕ → ℕ
-lengthNumber letter n = byKind (λ kind. lengthHands kind n .number) 255 (kindNamed letter)
+lengthNumber letter n = byKind (λ kind. lengthHands kind n .number) 255 (askedKind letter)
 
 -- the bytes of it that count; 0 for any other letter
 abbrev pub letterBytes : ℕ → ℕ
-letterBytes letter = byKind bytesThatCount 0 (kindNamed letter)
+letterBytes letter = byKind bytesThatCount 0 (askedKind letter)

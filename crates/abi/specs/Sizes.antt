@@ -22,11 +22,11 @@ use Rattle.abi.specs.Questions.{questionOf}
 abbrev pub isText : ℕ → Bool
 isText letter = eqb letter (code "y") || eqb letter (code "v") || eqb letter (code "x") || eqb letter (code "t")
 
--- the most bytes of all other letters: those of a get-entry answer with a system event
+-- no other letter gives more bytes: a get-entry answer with a system event has so many
 abbrev pub flatRoom : ℕ
 flatRoom = 24
 
--- the most bytes of a request's payload
+-- no payload of a request has more bytes
 abbrev pub requestRoom : ℕ
 requestRoom = 6
 

@@ -24,7 +24,7 @@ ghost use Rattle.sel_commands.specs.Length.{lengthHands};
 ghost use Rattle.flat_requests.specs.Requests.{requestOf};
 ghost use Rattle.flat.specs.Kinds.{flatOf};
 ghost use Rattle.flat.specs.declared.Kind.{Kind};
-ghost use Rattle.abi.specs.Questions.{kindNamed, lengthNumber, letterBytes, questionOf};
+ghost use Rattle.abi.specs.Questions.{askedKind, lengthNumber, letterBytes, questionOf};
 ghost use Rattle.abi.specs.Says.{Says, answerOf};
 
 // A letter, command or number that there is none of.
@@ -117,29 +117,29 @@ pub extern "C" fn sel_decode(kind: u8, data: &[u8], out: &mut [u8]) -> SelAnswer
 pub extern "C" fn sel_length(kind: u8, len: usize) -> u32
     ensures { λ r. ⌜ r ≡ lengthNumber kind len ⌝ }
 {
-    let Named::Kind(named) = kind_named(kind) else {
+    let AskedKind::Known(asked) = asked_kind(kind) else {
         return NO_QUESTION;
     };
-    length_number(named, len)
+    length_number(asked, len)
 }
 
 // The kind of answer that a letter names.
-enum Named {
-    Kind(AnswerKind),
-    Nothing,
+enum AskedKind {
+    Known(AnswerKind),
+    Unknown,
 }
 
-fn kind_named(letter: u8) -> Named
-    ensures { λ r. ⌜ r ≡ kindNamed letter ⌝ }
+fn asked_kind(letter: u8) -> AskedKind
+    ensures { λ r. ⌜ r ≡ askedKind letter ⌝ }
 {
     match letter {
-        b'e' => Named::Kind(AnswerKind::Entry),
-        b'g' => Named::Kind(AnswerKind::GetEntry),
-        b'i' => Named::Kind(AnswerKind::Info),
-        b'a' => Named::Kind(AnswerKind::Allocation),
-        b'r' => Named::Kind(AnswerKind::Reserve),
-        b'c' => Named::Kind(AnswerKind::Clear),
-        _ => Named::Nothing,
+        b'e' => AskedKind::Known(AnswerKind::Entry),
+        b'g' => AskedKind::Known(AnswerKind::GetEntry),
+        b'i' => AskedKind::Known(AnswerKind::Info),
+        b'a' => AskedKind::Known(AnswerKind::Allocation),
+        b'r' => AskedKind::Known(AnswerKind::Reserve),
+        b'c' => AskedKind::Known(AnswerKind::Clear),
+        _ => AskedKind::Unknown,
     }
 }
 
@@ -157,10 +157,10 @@ fn length_number(kind: AnswerKind, len: usize) -> u32
 pub extern "C" fn sel_bytes_that_count(kind: u8) -> usize
     ensures { λ r. ⌜ r ≡ letterBytes kind ⌝ }
 {
-    let Named::Kind(named) = kind_named(kind) else {
+    let AskedKind::Known(asked) = asked_kind(kind) else {
         return 0;
     };
-    bytes_that_count(named)
+    bytes_that_count(asked)
 }
 
 // The payload of a request. The argument is the record's id, or what Clear SEL is to do; a command that has no payload does not look at it.

@@ -13,6 +13,7 @@ use Rattle.field.specs.Bits.{byteAt, bits, bytesAt, le16At, le24At, le32At}
 use Rattle.field.specs.Choose.{if_then_else_, within}
 use Rattle.connection.specs.Channel.{channelAt, validChannel}
 use Rattle.connection.specs.Unit.{unitOf}
+use Rattle.connection.proofs.Back.{channel-number, unit-back}
 use Rattle.storage.specs.Alloc.{allocAt, parseAlloc}
 use Rattle.storage.specs.Time.{timestamp}
 use Rattle.storage.specs.declared.AllocAnswer.{AllocAnswer}
@@ -80,6 +81,7 @@ channel-is n =
       current = λ e. rw (ne-eqb n 0 (λ z. omega arith), eq-eqb n 0xE e);
       system = λ e. rw (ne-eqb n 0 (λ z. omega arith), ne-eqb n 0xE (λ z. omega arith), eq-eqb n 0xF e);
       numbered = λ f g h. (record { 0 = n }, rw (ne-eqb n 0 f, ne-eqb n 0xE g, ne-eqb n 0xF h), refl);
+      number = channel-number n;
     }
 
 unit-is : (b : ℕ) → UnitIs (bits 1 0 b) (unitOf b)
@@ -90,6 +92,7 @@ unit-is b =
       one = λ e. rw e;
       two = λ e. rw e;
       three = λ e. rw e;
+      number = unit-back .low b;
     }
 
 -- a system record

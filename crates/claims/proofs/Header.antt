@@ -1,9 +1,8 @@
 -- What include/sel.h says, from the proofs of abi. Assumes nothing.
 use Prim.Native.Nat.{ℕ}
-use mathlib.Core.Path.{_≡_, sym, ap, _∙_}
+use mathlib.Core.Path.{_≡_, ap, _∙_}
 use mathlib.Core.List.{List}
 use lib.ListN.{length}
-use Rattle.event_offset.proofs.Holding.{lent}
 use Rattle.lent_texts.specs.Fills.{fillAnswer}
 use Rattle.capture.specs.Walk.{walkOf}
 use Rattle.capture.proofs.Refusals.{refusals}
@@ -36,6 +35,5 @@ header =
       lengths = length-says;
       slots = slots-say;
       sizes = sizes;
-      printable = lent .printable;
       fromStore = from-store;
     }

@@ -15,6 +15,7 @@ use Rattle.storage.specs.Time.{timeText}
 use Rattle.event_data.specs.DataText.{data2Text, data3Text, dataText, joined, unlessFFh}
 use Rattle.event_offset.specs.Event.{eventText, textsOf}
 use Rattle.event_offset.specs.Tables.{table-42-2, table-42-3}
+use Rattle.event_offset.proofs.Holding.{lent}
 use Rattle.lent_texts.proofs.FilledGives.{filled-gives}
 use Rattle.claims.specs.Texts.{DataTexts, EventTexts, TimeTexts, Writes}
 
@@ -64,6 +65,7 @@ event-texts =
       ofSystem = λ id time generator revision sensor number direction event eventData. refl;
       ofStamped = λ id type time maker. refl;
       ofPlain = λ id type. refl;
+      lent = lent;
       filled = filled-gives;
     }
 

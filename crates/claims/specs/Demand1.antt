@@ -79,7 +79,7 @@ pub record Demand1 : Type 0 where
   -- row 4: whoever writes a text or a request gives it exactly if the output is shorter, with the length needed
   pub written : (text out left : List ℕ) (r : Written) → Room text out left r
   -- `flat` exactly if its flat bytes are longer than the output
-  pub flatRoom : (kind : Kind) (s out left : List ℕ) (r : FlatAnswer) → Gives (flatOf kind s) out r left
+  pub flatFour : (kind : Kind) (s out left : List ℕ) (r : FlatAnswer) → Gives (flatOf kind s) out r left
       → (flatNumber r .number ≡ 4) ↔ ((bytes : List ℕ) × (flatOf kind s ≡ taken bytes) × (length out < length bytes))
   pub flatNeeds : (bytes out left : List ℕ) (r : FlatAnswer) → Gives (taken bytes) out r left → length out < length bytes
       → flatNumber r ≡ handed 4 (length bytes ∷ [])

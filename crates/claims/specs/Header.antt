@@ -1,10 +1,7 @@
 -- What include/sel.h says of the library for C and Rust beside the promise of each of its functions. Assumes nothing.
-use Prim.Native.Nat.{ℕ, _≤_, _<_}
+use Prim.Native.Nat.{ℕ}
 use mathlib.Core.Path.{_≡_}
 use mathlib.Core.List.{List}
-use lib.ListN.{length}
-use Rattle.field.specs.Bits.{byteAt}
-use Rattle.event_offset.specs.Event.{eventText}
 use Rattle.sel_commands.specs.declared.length.AnswerKind.{AnswerKind}
 use Rattle.flat_form.specs.Form.{Flat}
 use Rattle.abi.specs.Filled.{Filled}
@@ -28,9 +25,7 @@ pub record Header : Type 0 where
   pub lengths : (kind : AnswerKind) (n : ℕ) → LengthSays kind n
   -- what `sel_slots_length` says of a length, `sel_walk` says of every capture of it
   pub slots : (len : ℕ) → SlotsSay len
-  -- how many bytes can be written; those of an event's text are printable ASCII
+  -- how many bytes can be written
   pub sizes : Sizes
-  pub printable : (event sensor offset k : ℕ) → k < length (eventText event sensor offset)
-      → (0x20 ≤ byteAt (eventText event sensor offset) k) × (byteAt (eventText event sensor offset) k ≤ 0x7E)
   -- `sel_texts`, and then `sel_event_text_from`, is `sel_event_text`
   pub fromStore : (a b c : List ℕ) (f : SelAnswer) (store starts lengths : List ℕ) → FromStore a b c f store starts lengths

@@ -7,12 +7,12 @@ use Rattle.abi.proofs.sel_bytes_that_count.Statement.{statement}
 use Rattle.abi.proofs.sel_bytes_that_count.Tie as tie
 
 returns : tie.Need-returns
-returns c = of-kind bytesThatCount 0 _ (c .before .before .kind-named .ensures) (c .enum-told .given .1)
+returns c = of-kind bytesThatCount 0 _ (c .before .before .asked-kind .ensures) (c .enum-told .given .1)
 
 returns-2 : tie.Need-returns-2
 returns-2 c =
-    let named = c .before .before in
-    c .bytes-that-count .ensures ∙ of-kind bytesThatCount 0 _ (named .before .before .kind-named .ensures) (named .named .given .1)
+    let asked = c .before .before in
+    c .bytes-that-count .ensures ∙ of-kind bytesThatCount 0 _ (asked .before .before .asked-kind .ensures) (asked .asked .given .1)
 
 pub sel-bytes-that-count-spec : {M : Type 1} → statement M
 sel-bytes-that-count-spec =

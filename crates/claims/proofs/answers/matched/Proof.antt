@@ -1,0 +1,13 @@
+-- `matched` meets its contract: the name that a user writes is that of the place. Assumes nothing.
+use borrow.Author.Needs.{needs}
+use mathlib.Core.Path.{sym, ap}
+use Rattle.sel.specs.Entry.{systemOf}
+use Rattle.claims.proofs.answers.matched.Statement.{statement}
+use Rattle.claims.proofs.answers.matched.Tie as tie
+
+returns : tie.Need-returns
+returns c = ap systemOf (sym (c .before .e .given .1))
+
+pub matched-spec : {M : Type 1} → statement M
+matched-spec =
+    tie.close (tie.spec (λ c. search needs) (λ c. search needs) (λ c. search needs) returns (λ c. search needs) (λ c. search needs))

@@ -53,7 +53,7 @@ GoodLines input k = (j : ℕ) → j < k → fits lineForm (getD (lines input) j 
 abbrev pub FirstBad : List ℕ → ℕ → Type 0
 FirstBad input k = (k ≤ 3000) × GoodLines input k × (k < length (lines input)) × (fits lineForm (getD (lines input) k []) ≡ false)
 
--- there are k lines, at most 3,000, and all are
+-- there are k lines, at most 3,000, and all are good
 abbrev pub AllGood : List ℕ → ℕ → Type 0
 AllGood input k = (k ≤ 3000) × (length (lines input) ≡ k) × GoodLines input k
 

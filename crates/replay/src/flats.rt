@@ -1,10 +1,10 @@
 // The kinds that the crate `flat` answers: all but the walk.
-use crate::same::same_answer;
 use crate::say::say;
 use crate::say::say_bytes;
 use crate::say::say_hex;
 use crate::say::say_no_room;
 use crate::say::up_to;
+use abi::SelAnswer;
 use flat::Kind;
 use flat_form::FlatAnswer;
 
@@ -37,6 +37,28 @@ fn say_answer(answer: FlatAnswer, out: &[u8], text: bool) {
         FlatAnswer::InvalidChannel(n) => say_refusal(b"3 ", n),
         FlatAnswer::NoRoom(n) => say_no_room(n),
         FlatAnswer::NoQuestion => say(b"?"),
+    }
+}
+
+// Whether the library for C and Rust says the same as `flat`.
+fn says(sel: SelAnswer, number: u32, value: u8, length: usize) -> bool {
+    if sel.number != number {
+        return false;
+    }
+    if sel.value != value as u32 {
+        return false;
+    }
+    sel.length == length
+}
+
+fn same_answer(answer: FlatAnswer, sel: SelAnswer) -> bool {
+    match answer {
+        FlatAnswer::Length(n) => says(sel, 0, 0, n),
+        FlatAnswer::NotEnoughData => says(sel, 1, 0, 0),
+        FlatAnswer::UnknownRecordType(t) => says(sel, 2, t, 0),
+        FlatAnswer::InvalidChannel(n) => says(sel, 3, n, 0),
+        FlatAnswer::NoRoom(n) => says(sel, 4, 0, n),
+        FlatAnswer::NoQuestion => says(sel, 255, 0, 0),
     }
 }
 

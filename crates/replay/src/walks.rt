@@ -1,6 +1,4 @@
 // The kind w: a budget, a number of places lent, and the slots to walk over.
-use crate::same::same_places;
-use crate::same::same_walk;
 use crate::say::say;
 use crate::say::say_hex;
 use crate::say::say_le16;
@@ -27,8 +25,8 @@ fn say_walk(verdict: u8, ask: u16, read: usize, list: &[u16]) {
     say_places(list);
 }
 
-fn say_verdict(verdict: Verdict, list: &[u16]) {
-    match verdict {
+fn walk_into(slots: &[u8], budget: usize, list: &mut [u16]) {
+    match capture::walk(slots, budget, list) {
         Verdict::Ended { read } => say_walk(0, 0, read, list),
         Verdict::Missing { ask, read } => say_walk(1, ask.value(), read, list),
         Verdict::Spent { ask, read } => say_walk(2, ask.value(), read, list),
@@ -36,21 +34,6 @@ fn say_verdict(verdict: Verdict, list: &[u16]) {
         Verdict::NoRoom(n) => say_no_room(n),
         Verdict::BadCapture => say(b"5"),
     }
-}
-
-// Walks both ways, each with a list of its own.
-fn walk_into(slots: &[u8], budget: usize, list: &mut [u16], sel_list: &mut [u16]) {
-    let verdict = capture::walk(slots, budget, list);
-    let sel = abi::sel_walk(slots, budget, sel_list);
-    if !same_walk(verdict, sel) {
-        say(b"differs");
-        return;
-    }
-    if !same_places(list, sel_list) {
-        say(b"differs");
-        return;
-    }
-    say_verdict(verdict, list);
 }
 
 pub(crate) fn walk(data: &[u8]) {
@@ -66,11 +49,5 @@ pub(crate) fn walk(data: &[u8]) {
     }
     // What no walk lists, so that places that were touched show.
     let mut list = [0xEEEEu16; MOST_PLACES];
-    let mut sel_list = [0xEEEEu16; MOST_PLACES];
-    walk_into(
-        &data[6..],
-        budget,
-        &mut list[..places],
-        &mut sel_list[..places],
-    );
+    walk_into(&data[6..], budget, &mut list[..places]);
 }

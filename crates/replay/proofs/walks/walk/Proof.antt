@@ -9,9 +9,6 @@ use Rattle.replay.proofs.walks.walk.Tie as tie
 slice-aggregate-walk-into : tie.Need-slice-aggregate-walk-into
 slice-aggregate-walk-into c = sym (length-take-le _ _ (omega arith))
 
-slice-aggregate-walk-into-2 : tie.Need-slice-aggregate-walk-into-2
-slice-aggregate-walk-into-2 c = sym (length-take-le _ _ (omega arith))
-
 pub walk-spec : {M : Type 1} → statement M
 walk-spec =
     tie.close
@@ -31,7 +28,5 @@ walk-spec =
     (λ c. search needs)
     (λ c. search needs)
     slice-aggregate-walk-into
-    (λ c. search needs)
-    slice-aggregate-walk-into-2
     (λ c κs. search needs)
     (λ c. search needs))

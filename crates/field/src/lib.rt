@@ -1,4 +1,6 @@
-// Bytes and little-endian numbers at a place of a slice. Each reader is total: a byte past the end is 0.
+// Bytes and little-endian numbers at a place of a slice. Each reader is total: a byte past the end is 0. And the lengths of answers.
+pub mod lengths;
+
 ghost use mathlib.Core.Path.{_≡_};
 ghost use lib.ListN.{getD};
 ghost use Rattle.field.specs.Bits.{byteAt, le16At, le24At, le32At};

@@ -8,8 +8,9 @@ use native.Mathlib.Omega.{arith}
 use borrow.Author.Tests.{le-leb, lt-leb}
 use lib.ListN.{length, take, drop, set, length-append, length-drop, drop-of-length-le}
 use lib.Seq.{take-at, take-length, drop-append-add, drop-drop, length-take-le, set-split, append-snoc, paste-zero}
+use Rattle.field.specs.Placed.{placed}
 use Rattle.field.proofs.Parts.{tail-is}
-use Rattle.text.specs.Text.{placed, Put, PutWithin}
+use Rattle.text.specs.Text.{Put, PutWithin}
 use Rattle.text.specs.Written.{Wrote}
 use Rattle.text.specs.declared.Written.{Written}
 

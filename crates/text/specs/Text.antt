@@ -3,21 +3,14 @@ use Prim.Native.Nat.{ℕ, _+_, _≤_}
 use Prim.Native.Char.{code}
 use Prim.Native.String.{String, [] as none, _∷_ as _then_}
 use mathlib.Core.Path.{_≡_}
-use mathlib.Core.List.{List, [], _∷_, _++_}
-use lib.ListN.{length, take, drop}
+use mathlib.Core.List.{List, [], _∷_}
+use lib.ListN.{length}
+use Rattle.field.specs.Placed.{placed}
 
 -- the codes of a text's characters: for ASCII, its bytes
 abbrev pub bytes : String → List ℕ
 bytes none = []
 bytes (c then s) = code c ∷ bytes s
-
--- the places of old from the first on hold new, the rest are as before
-unfoldable pub over : List ℕ → List ℕ → List ℕ
-over new old = new ++ drop (length new) old
-
--- the output with the text at the place `at`, and otherwise as it was
-unfoldable pub placed : List ℕ → ℕ → List ℕ → List ℕ
-placed out at text = take at out ++ text ++ drop (at + length text) out
 
 -- The promise of a part writer: `left` is `out` with the text at the place `at`, where it fits, and `next` is the place after it.
 pub record Put (out left : List ℕ) (at next : ℕ) (text : List ℕ) : Type 0 where

@@ -2,11 +2,12 @@
 use Prim.Native.Nat.{ℕ}
 use mathlib.Core.Path.{_≡_}
 use mathlib.Core.Bool.{Bool}
-use mathlib.Core.List.{List, [], _∷_, _++_}
+use mathlib.Core.List.{List, [], _∷_}
 use lib.Dec.{leb}
-use lib.ListN.{length, drop}
+use lib.ListN.{length}
 use Rattle.field.specs.Choose.{if_then_else_}
 use Rattle.field.specs.Handed.{Handed, handed}
+use Rattle.field.specs.Placed.{placed}
 use Rattle.text.specs.declared.Written.{Written}
 
 -- the one test for room
@@ -19,7 +20,7 @@ answer text out = if roomFor text out then Written.Length (length text) else Wri
 
 -- the text at the output's start and the rest as it was, or all as it was
 abbrev pub after : List ℕ → List ℕ → List ℕ
-after text out = if roomFor text out then text ++ drop (length text) out else out
+after text out = if roomFor text out then placed out 0 text else out
 
 -- docs/SCOPE.md, "Numbers handed back": accepted, or 4 with the length needed
 abbrev pub numberOf : Written → Handed

@@ -21,16 +21,31 @@ pub enum NewChannel {
     Invalid(u8),
 }
 
+// Whether a number names a channel: the one test of it.
+pub fn is_channel(value: u8) -> bool
+    ensures { λ r. ⌜ r ≡ validChannel value ⌝ }
+{
+    if value <= 0xB {
+        return true;
+    }
+    if value == 0xE {
+        return true;
+    }
+    value == 0xF
+}
+
 impl Channel {
     pub fn new(value: u8) -> NewChannel
         ensures { λ r. ⌜ Answers r (channelOf validChannel value) numberOf (channelHands validChannel value) ⌝ }
     {
+        if !is_channel(value) {
+            return NewChannel::Invalid(value);
+        }
         match value {
             0 => NewChannel::Valid(Channel::Primary),
             0xE => NewChannel::Valid(Channel::Current),
             0xF => NewChannel::Valid(Channel::System),
-            1..=0xB => NewChannel::Valid(Channel::Numbered(ChannelNumber(value))),
-            _ => NewChannel::Invalid(value),
+            _ => NewChannel::Valid(Channel::Numbered(ChannelNumber(value))),
         }
     }
 

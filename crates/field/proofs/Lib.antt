@@ -2,3 +2,4 @@ pub mod Bytes
 pub mod Choices
 pub mod Parts
 pub mod Past
+pub mod Rows

@@ -31,3 +31,7 @@ long-rows {given} {Row} n s few many = rows-by (by (decLe n (length s))) only
     only : (h : Handed) → LongEnough n s Row h → given ≡ h
     only _ (tooShort m) = few m
     only h (long m r) = many m .exactly h .1 r
+
+-- what is given by another definition is given by the same rows
+pub rows-are : {given given′ : Handed} {Row : Handed → Type 0} → given ≡ given′ → Rows given Row → Rows given′ Row
+rows-are {Row = Row} e r = subst (λ (h : Handed). Rows h Row) e r

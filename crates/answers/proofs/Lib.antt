@@ -1,0 +1,4 @@
+pub mod BytesThatCount
+pub mod LengthDecides
+pub mod Requests
+pub mod Rows

@@ -1,2 +1,0 @@
-pub mod FilledGives
-pub mod Fills

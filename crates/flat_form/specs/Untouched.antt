@@ -1,11 +1,15 @@
--- Where a number other than 0 is handed back, the output is as it was; and where it is 0, what stands behind the flat bytes is. Assumes nothing.
+-- Where a number other than 0 is handed back, the output is as it was; where it is 0, what stands behind the bytes written is. And any two answers
+-- that a promise allows are one. Assumes nothing.
 use Prim.Native.Nat.{ℕ}
 use mathlib.Core.Path.{_≡_}
 use mathlib.Core.List.{List}
 use lib.ListN.{drop}
-use Rattle.flat_form.specs.Form.{Flat, Gives, numberOf}
-use Rattle.flat_form.specs.declared.FlatAnswer.{FlatAnswer}
+use Rattle.flat_form.specs.Form.{Flat, Gives}
+use Rattle.flat_form.specs.declared.SelAnswer.{SelAnswer}
 
-pub record Untouched (out left : List ℕ) (r : FlatAnswer) : Type 0 where
-  pub untouched : (flat : Flat) → Gives flat out r left → (numberOf r .number ≡ 0 → ⊥) → left ≡ out
-  pub behind : (flat : Flat) (n : ℕ) → Gives flat out r left → r ≡ FlatAnswer.Length n → drop n left ≡ drop n out
+pub record Untouched (flat : Flat) (out left : List ℕ) (r : SelAnswer) : Type 0 where
+  pub untouched : Gives flat out r left → (r .number ≡ 0 → ⊥) → left ≡ out
+  pub behind : Gives flat out r left → r .number ≡ 0 → drop (r .length) left ≡ drop (r .length) out
+
+pub record OneAnswer (flat : Flat) (out : List ℕ) : Type 0 where
+  pub one : (r r′ : SelAnswer) (left left′ : List ℕ) → Gives flat out r left → Gives flat out r′ left′ → (r ≡ r′) × (left ≡ left′)

@@ -5,37 +5,71 @@ ghost use Prim.Native.Nat.{_+_, _≤_};
 ghost use lib.ListN.{length};
 ghost use Rattle.field.specs.Bits.{leBytes};
 ghost use Rattle.text.specs.Text.{Put};
-ghost use Rattle.flat_form.specs.Form.{Gives, fromWritten, taken};
+ghost use Rattle.flat_form.specs.Form.{Gives, fromWritten, said, taken};
 
-// What the writer of a flat form answers.
-pub enum FlatAnswer {
-    // The length of the flat bytes, which are written.
-    Length(usize),
-    NotEnoughData,
-    UnknownRecordType(u8),
-    InvalidChannel(u8),
-    // The length needed; nothing is written.
-    NoRoom(usize),
-    // The bytes are no question of the kind that was asked.
-    NoQuestion,
+// What the writer of a flat form answers: the number; what a refusal carries; the bytes written, or needed where the number is 4.
+#[repr(C)]
+pub struct SelAnswer {
+    pub number: u32,
+    pub value: u32,
+    pub length: usize,
+}
+
+// That many flat bytes were written.
+pub fn written(length: usize) -> SelAnswer
+    ensures { λ r. ⌜ r ≡ said 0 0 length ⌝ }
+{
+    SelAnswer {
+        number: 0,
+        value: 0,
+        length,
+    }
+}
+
+// That many are needed; nothing was written.
+pub fn no_room(length: usize) -> SelAnswer
+    ensures { λ r. ⌜ r ≡ said 4 0 length ⌝ }
+{
+    SelAnswer {
+        number: 4,
+        value: 0,
+        length,
+    }
+}
+
+pub fn refused(number: u32, value: u32) -> SelAnswer
+    ensures { λ r. ⌜ r ≡ said number value 0 ⌝ }
+{
+    SelAnswer {
+        number,
+        value,
+        length: 0,
+    }
+}
+
+// The bytes are no question of the kind that was asked.
+pub fn no_question() -> SelAnswer
+    ensures { λ r. ⌜ r ≡ said 255 0 0 ⌝ }
+{
+    refused(255, 0)
+}
+
+// What a text's writer answered, as the answer of the flat form.
+pub fn of_written(w: Written) -> SelAnswer
+    ensures { λ r. ⌜ r ≡ fromWritten w ⌝ }
+{
+    match w {
+        Written::Length(n) => written(n),
+        Written::NoRoom(n) => no_room(n),
+    }
 }
 
 // Writes flat bytes to the start of out, or refuses, where out is shorter.
-pub fn write(bytes: &[u8], out: &mut [u8]) -> FlatAnswer
+pub fn write(bytes: &[u8], out: &mut [u8]) -> SelAnswer
     ensures { λ r. ⌜ Gives (taken (now (bytes .entry))) (now (out .entry)) r (now (out .exit)) ⌝ }
 {
     let w = text::write(bytes, out);
     of_written(w)
-}
-
-// What a text's writer answered, as the answer of the flat form.
-pub fn of_written(w: Written) -> FlatAnswer
-    ensures { λ r. ⌜ r ≡ fromWritten w ⌝ }
-{
-    match w {
-        Written::Length(n) => FlatAnswer::Length(n),
-        Written::NoRoom(n) => FlatAnswer::NoRoom(n),
-    }
 }
 
 // Puts a number as two bytes, or as four.

@@ -5,6 +5,7 @@ import sys
 from pathlib import Path
 
 sys.dont_write_bytecode = True
+from floors import floor_faults
 from signatures import signature_faults
 
 # What the type of data is made of, beside the types that the code declares and records of data.
@@ -251,6 +252,7 @@ def faults(root):
     yield from (f'docs/STATEMENTS.md:{n}: {x} is listed, and has no requires' for x, n in listed(root).items() if x not in met)
     yield from unproved_claims(root)
     yield from signature_faults(root)
+    yield from floor_faults(root)
     said = subprocess.run(['rt', 'fmt', '--check'], cwd=root, capture_output=True, text=True)
     if said.returncode:
         yield 'rt fmt --check: ' + (said.stdout + said.stderr).strip().replace(f'{root}/', '')

@@ -9,7 +9,7 @@ sys.path.insert(0, str(Path(__file__).parent))
 from quick import faults
 
 LIB, EDIT = 'crates/a/src/lib.rt', 'crates/a/must-fail/x.edit'
-SPEC, PROOF, PAGE = 'crates/a/specs/Lib.antt', 'crates/a/proofs/Lib.antt', 'docs/STATEMENTS.md'
+SPEC, PROOF, PAGE, FLOORS = 'crates/a/specs/Lib.antt', 'crates/a/proofs/Lib.antt', 'docs/STATEMENTS.md', 'docs/FLOORS.md'
 CLEAR = 'pub fn clear(s: &mut [u8]) -> u8\n    ensures { λ _. ⌜ now (s .exit) ≡ now (s .entry) ⌝ }\n{\n    0\n}\n'
 PUT = 'pub fn put(s: &mut [u8]) -> u8\n    requires { ⌜ 1 ≤ length (now s) ⌝ }\n    ensures { λ _. ⌜ now (s .exit) ≡ now (s .entry) ⌝ }\n{\n    0\n}\n'
 ROWS = '## a\n\n| Function | Promise | Rules out |\n|---|---|---|\n| `clear` | the same | another |\n'
@@ -21,7 +21,9 @@ GOOD = {
     PROOF: '-- what? a comment\npub demand : Demand\ndemand = record { one = λ n. refl }\n',
     EDIT: '# a wrong program\n# refused: 0 is not 1 (returns)\nfile: src/lib.rt\nold: 0\nnew: 1\n',
     PAGE: ROWS,
+    FLOORS: '# Floors\n\n    floor  rooms\n        1  a\n\nWhat each holds:\n\n- `a`: nothing\n  much\n',
 }
+TWO = {'crates.txt': 'a:\nb: a bytes\n', 'crates/b/src/lib.rt': '// none\n', FLOORS: '    floor  rooms\n        2  b\n        1  a\n\n- `a`: one\n- `b`: another\n'}
 # What is planted, and a word of what is then said.
 PLANTED = [
     ({'crates/b/src/lib.rt': '// nothing\n'}, 'crates/b is not listed'),
@@ -67,6 +69,15 @@ PLANTED = [
     ({SPEC: 'module _ (n : ℕ) where\n  pub record Demand : Type 0 where\n    pub one : n ≡ n\n', PROOF: ''}, 'specs/ states Demand'),
     ({'crates.txt': 'a:\nb:\n', 'crates/b/src/lib.rt': '// none\n', 'crates/b/specs/Lib.antt': THEOREM}, 'crates/b: specs/ states Demand'),
     ({LIB: CLEAR.replace('    0', '  0')}, 'rt fmt --check'),
+    ({FLOORS: ''}, 'the drawing is not that of crates.txt'),
+    ({FLOORS: GOOD[FLOORS].replace('1  a', '2  a')}, 'the drawing is not that of crates.txt'),
+    ({FLOORS: GOOD[FLOORS].replace('1  a', '1  a  b')}, 'the drawing is not that of crates.txt'),
+    ({**TWO, 'crates.txt': 'a:\nb: bytes\n'}, 'the drawing is not that of crates.txt'),
+    ({**TWO, 'crates.txt': 'a: b\nb:\n'}, 'the drawing is not that of crates.txt'),
+    ({**TWO, 'crates.txt': 'a: b\nb: a\n'}, 'b stands on itself'),
+    ({FLOORS: GOOD[FLOORS].replace('- `a`: nothing', '- `a`:')}, 'no words on the room a'),
+    ({**TWO, FLOORS: TWO[FLOORS].replace('- `b`: another\n', '')}, 'no words on the room b'),
+    ({FLOORS: GOOD[FLOORS] + '- `gone`: words\n'}, 'the room gone is not there'),
 ]
 
 
@@ -182,6 +193,8 @@ pub(crate) fn text(starts: &[u16], [event_type, sensor_type]: [u8; 2], id: u16, 
     RUST + 'flat.rs': '/// The most bytes.\nconst MOST: usize = 2;\n',
     RUST + 'request.rs': 'const MOST: usize = 1;\n',
 }
+ALL = EXPORTS['crates.txt'].replace(':', '').split()
+EXPORTS[FLOORS] = '    floor  rooms\n        1  ' + '  '.join(ALL) + '\n\n' + ''.join(f'- `{c}`: words\n' for c in ALL)
 # What is planted there: a file, its words, others for them, and a word of what is then said.
 CHANGED = [
     (HEADER, 'uint8_t event_type, uint8_t sensor_type', 'uint8_t sensor_type, uint8_t event_type', 'include/sel.h: SelAnswer sel_text('),
@@ -231,7 +244,7 @@ def tried(tree):
 
 bad = [f'the tree without fault: {x}' for x in tried(GOOD)]
 # Trees without fault: a listed part writer; theorems over data, in a section and on several lines; a promise; a premise; a notion that a
-# definition uses; a theorem inside a proved one; data by its cases; a function in a module of the crate's own; data in data.
+# definition uses; a theorem inside a proved one; data by its cases; a function in a module of the crate's own; data in data; a second floor.
 PASSES = [
     {LIB: PUT, PAGE: ROWS.replace('clear', 'put') + '\n## Exceptions\n\n- `a::put` requires room for a byte\n'},
     {PROOF: 'module _ (n : ℕ) (f : ℕ → Bool) where\n  pub demand :\n      {s : List ℕ} (g : ℕ → ℕ) → Demand\n  demand = it\n'},
@@ -242,6 +255,7 @@ PASSES = [
     {SPEC: GOOD[SPEC] + '\npub data Either : Type 0 where\n  left : Data → Either\n  right : List ℕ → Either → Either\n', PROOF: 'pub demand : (e : Either) → Demand\ndemand e = it\n'},
     {LIB: 'mod part;\n', 'crates/a/src/part.rt': CLEAR},
     {SPEC: GOOD[SPEC] + '\npub record Pair : Type 0 where\n  pub first : Data\n  pub rest : List Data\n'},
+    TWO,
 ]
 bad += [f'tree {n} without fault: {x}' for n, tree in enumerate(PASSES, 1) for x in tried({**GOOD, **tree})]
 # The tree that exports to C, and the same where ffi.rs leaves a function out, and with other spaces and comments in the header.

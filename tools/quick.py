@@ -2,9 +2,11 @@
 import re
 import subprocess
 import sys
+from itertools import takewhile
 from pathlib import Path
 
 sys.dont_write_bytecode = True
+from floors import floor_faults
 from signatures import signature_faults
 
 # What the type of data is made of, beside the types that the code declares and records of data.
@@ -71,12 +73,14 @@ def listed(root):
 
 
 def stated(root, crate):
-    """The functions that docs/STATEMENTS.md has in the first cells of a crate's tables: {name: line}."""
+    """The functions that docs/STATEMENTS.md lists under a crate's heading: {name: line}. Each item begins with their names and a colon."""
     page, names, inside = root / 'docs/STATEMENTS.md', {}, False
-    for n, x in enumerate(page.read_text().splitlines() if page.is_file() else [], 1):
+    lines = page.read_text().splitlines() if page.is_file() else []
+    for n, x in enumerate(lines, 1):
         inside = x == f'## {crate}' if x.startswith('## ') else inside
-        if inside and x.startswith('| `'):
-            names.update((name, n) for name in re.findall(r'`([\w:]+)`', x.split('|')[1]))
+        item = ' '.join([x] + [y.strip() for y in takewhile(lambda y: y.startswith('  '), lines[n:])])
+        if inside and (m := re.match(r'- (`[\w:]+`(?:, `[\w:]+`)*): \S', item)):
+            names.update((name, n) for name in re.findall(r'`([\w:]+)`', m.group(1)))
     return names
 
 
@@ -237,6 +241,28 @@ def file_faults(root, crate):
             yield f'{f.relative_to(root)}: does not begin with its two comment lines'
 
 
+def wide_lines(root):
+    """Lines of the pages over 120 columns, and table rows over 160. Code may be wider, and so may a line of one word, as a link."""
+    for f in filter(Path.is_file, [root / 'README.md', *sorted((root / 'docs').glob('*.md'))]):
+        before, code, fenced = '', False, False
+        for n, x in enumerate(f.read_text().splitlines(), 1):
+            fenced ^= x.startswith('```')
+            code = x.startswith('    ') and (code or not before.strip())
+            most = 160 if x.startswith('|') else 120
+            if len(x) > most and not code and not fenced and ' ' in re.sub(r'^ *(- |\d+\. )?', '', x):
+                yield f'{f.relative_to(root)}:{n}: {len(x)} columns, of at most {most}'
+            before = x
+
+
+def sample_faults(root):
+    """Samples of README.md that are not what stands in examples/: a capture, or what seldump prints for it."""
+    page = root / 'README.md'
+    for command, name, shown in re.findall(r'(?m)^    \$ (cat|\./seldump) (\S+)\n((?:    [^$\n].*\n)*)', page.read_text() if page.is_file() else ''):
+        file = root / name if command == 'cat' else (root / name).with_suffix('.out')
+        if not file.is_file() or re.sub(r'(?m)^    ', '', shown) != file.read_text():
+            yield f'README.md: `{command} {name}` shows something else than {file.relative_to(root)}'
+
+
 def faults(root):
     names = {x.split('#')[0].split(':')[0].strip() for x in (root / 'crates.txt').read_text().splitlines()} - {''}
     there = {d.name for d in (root / 'crates').iterdir() if d.is_dir()}
@@ -251,6 +277,9 @@ def faults(root):
     yield from (f'docs/STATEMENTS.md:{n}: {x} is listed, and has no requires' for x, n in listed(root).items() if x not in met)
     yield from unproved_claims(root)
     yield from signature_faults(root)
+    yield from floor_faults(root)
+    yield from wide_lines(root)
+    yield from sample_faults(root)
     said = subprocess.run(['rt', 'fmt', '--check'], cwd=root, capture_output=True, text=True)
     if said.returncode:
         yield 'rt fmt --check: ' + (said.stdout + said.stderr).strip().replace(f'{root}/', '')

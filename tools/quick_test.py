@@ -9,10 +9,10 @@ sys.path.insert(0, str(Path(__file__).parent))
 from quick import faults
 
 LIB, EDIT = 'crates/a/src/lib.rt', 'crates/a/must-fail/x.edit'
-SPEC, PROOF, PAGE = 'crates/a/specs/Lib.antt', 'crates/a/proofs/Lib.antt', 'docs/STATEMENTS.md'
+SPEC, PROOF, PAGE, FLOORS = 'crates/a/specs/Lib.antt', 'crates/a/proofs/Lib.antt', 'docs/STATEMENTS.md', 'docs/FLOORS.md'
 CLEAR = 'pub fn clear(s: &mut [u8]) -> u8\n    ensures { λ _. ⌜ now (s .exit) ≡ now (s .entry) ⌝ }\n{\n    0\n}\n'
 PUT = 'pub fn put(s: &mut [u8]) -> u8\n    requires { ⌜ 1 ≤ length (now s) ⌝ }\n    ensures { λ _. ⌜ now (s .exit) ≡ now (s .entry) ⌝ }\n{\n    0\n}\n'
-ROWS = '## a\n\n| Function | Promise | Rules out |\n|---|---|---|\n| `clear` | the same | another |\n'
+STATED = '## a\n\n- `clear`: the same.\n  Rules out: another.\n'
 THEOREM = 'pub record Demand : Type 0 where\n  -- one\n  pub one : (n : ℕ) → n ≡ n\n'
 GOOD = {
     'crates.txt': 'a:\n',
@@ -20,8 +20,12 @@ GOOD = {
     SPEC: THEOREM + '\npub record Data : Type 0 where\n  pub number : ℕ\n',
     PROOF: '-- what? a comment\npub demand : Demand\ndemand = record { one = λ n. refl }\n',
     EDIT: '# a wrong program\n# refused: 0 is not 1 (returns)\nfile: src/lib.rt\nold: 0\nnew: 1\n',
-    PAGE: ROWS,
+    PAGE: STATED,
+    FLOORS: '# Floors\n\n    floor  rooms\n        1  a\n\nWhat each holds:\n\n- `a`: nothing\n  much\n',
 }
+TWO = {'crates.txt': 'a:\nb: a bytes\n', 'crates/b/src/lib.rt': '// none\n', FLOORS: '    floor  rooms\n        2  b\n        1  a\n\n- `a`: one\n- `b`: another\n'}
+WIDE = 'word ' * 24 + 'x\n'
+SAMPLE = {'README.md': 'Run it:\n\n    $ cat examples/x.txt\n    a\n    $ ./seldump examples/x.txt\n    c\n\nSo.\n', 'examples/x.txt': 'a\n', 'examples/x.out': 'c\n'}
 # What is planted, and a word of what is then said.
 PLANTED = [
     ({'crates/b/src/lib.rt': '// nothing\n'}, 'crates/b is not listed'),
@@ -41,12 +45,13 @@ PLANTED = [
     ({LIB: f'impl A {{\n{PUT}}}\n\nimpl B {{\n{PUT}}}\n', PAGE: '- `a::A::put` requires room\n'}, 'pub fn B::put has a requires'),
     ({PAGE: '- `a::put_old` requires room\n'}, 'is listed, and has no requires'),
     ({PAGE: ''}, 'does not state a::clear'),
-    ({PAGE: ROWS.replace('## a', '## b')}, 'does not state a::clear'),
+    ({PAGE: STATED.replace('## a', '## b')}, 'does not state a::clear'),
     ({LIB: CLEAR + '\n#[no_mangle]\n' + CLEAR.replace('pub fn clear', 'pub extern "C" fn sel_clear')}, 'does not state a::sel_clear'),
-    ({PAGE: ROWS.replace('`clear` |', 'no |').replace('the same', '`clear`')}, 'does not state a::clear'),
+    ({PAGE: STATED.replace('`clear`:', 'no:').replace('the same', '`clear`')}, 'does not state a::clear'),
+    ({PAGE: STATED.replace('`clear`:', '`clear`,')}, 'does not state a::clear'),
     ({LIB: f'impl A {{\n{CLEAR}}}\n'}, 'does not state a::A::clear'),
     ({LIB: 'pub mod part;\n\n' + CLEAR, 'crates/a/src/part.rt': CLEAR}, 'does not state a::part::clear'),
-    ({PAGE: ROWS.replace('`clear`', '`clear`, `gone`')}, 'a::gone is stated, and is not there'),
+    ({PAGE: STATED.replace('`clear`', '`clear`, `gone`')}, 'a::gone is stated, and is not there'),
     ({PROOF: GOOD[PROOF] + 'returns c = ?\n'}, 'a hole'),
     ({PROOF: GOOD[PROOF] + 'returns c = (omega arith, ?)\n'}, 'a hole'),
     ({PROOF: GOOD[PROOF] + 'returns = [?]\n'}, 'a hole'),
@@ -67,6 +72,23 @@ PLANTED = [
     ({SPEC: 'module _ (n : ℕ) where\n  pub record Demand : Type 0 where\n    pub one : n ≡ n\n', PROOF: ''}, 'specs/ states Demand'),
     ({'crates.txt': 'a:\nb:\n', 'crates/b/src/lib.rt': '// none\n', 'crates/b/specs/Lib.antt': THEOREM}, 'crates/b: specs/ states Demand'),
     ({LIB: CLEAR.replace('    0', '  0')}, 'rt fmt --check'),
+    ({FLOORS: ''}, 'the drawing is not that of crates.txt'),
+    ({FLOORS: GOOD[FLOORS].replace('1  a', '2  a')}, 'the drawing is not that of crates.txt'),
+    ({FLOORS: GOOD[FLOORS].replace('1  a', '1  a  b')}, 'the drawing is not that of crates.txt'),
+    ({**TWO, 'crates.txt': 'a:\nb: bytes\n'}, 'the drawing is not that of crates.txt'),
+    ({**TWO, 'crates.txt': 'a: b\nb:\n'}, 'the drawing is not that of crates.txt'),
+    ({**TWO, 'crates.txt': 'a: b\nb: a\n'}, 'b stands on itself'),
+    ({FLOORS: GOOD[FLOORS].replace('- `a`: nothing', '- `a`:')}, 'no words on the room a'),
+    ({**TWO, FLOORS: TWO[FLOORS].replace('- `b`: another\n', '')}, 'no words on the room b'),
+    ({FLOORS: GOOD[FLOORS] + '- `gone`: words\n'}, 'the room gone is not there'),
+    ({'README.md': WIDE}, 'README.md:1: 121 columns'),
+    ({'docs/MORE.md': '    code\n\n- and\n  ' + WIDE}, 'docs/MORE.md:4: 123 columns'),
+    ({'docs/MORE.md': '10. and\n    ' + WIDE}, 'docs/MORE.md:2: 125 columns'),
+    ({'docs/MORE.md': '```\ncode\n```\n- ' + WIDE}, 'docs/MORE.md:4: 123 columns'),
+    ({'docs/MORE.md': f'| {"x" * 157} |\n'}, 'docs/MORE.md:1: 161 columns'),
+    ({**SAMPLE, 'examples/x.txt': 'a\nb\n'}, '`cat examples/x.txt` shows something else'),
+    ({**SAMPLE, 'examples/x.out': 'c\n\n'}, '`./seldump examples/x.txt` shows something else'),
+    ({'README.md': SAMPLE['README.md']}, '`./seldump examples/x.txt` shows something else'),
 ]
 
 
@@ -85,7 +107,7 @@ EXPORTS = {
     **GOOD,
     **{f'crates/{file}.antt': '\n\n'.join(f'abbrev pub {x.split()[0]} : ℕ\n{x}' for x in lines) + '\n' for file, lines in ROOMS.items()},
     'crates.txt': 'a:\nabi:\nlent_texts:\nevent_offset:\nevent_data:\nstorage:\n',
-    PAGE: ROWS + ROWS.replace('## a', '## abi').replace('`clear`', '`sel_text`, `sel_length`'),
+    PAGE: STATED + STATED.replace('## a', '## abi').replace('`clear`', '`sel_text`, `sel_length`'),
     ABI: '''// Answers.
 #[repr(C)]
 pub struct SelAnswer {
@@ -182,6 +204,8 @@ pub(crate) fn text(starts: &[u16], [event_type, sensor_type]: [u8; 2], id: u16, 
     RUST + 'flat.rs': '/// The most bytes.\nconst MOST: usize = 2;\n',
     RUST + 'request.rs': 'const MOST: usize = 1;\n',
 }
+ALL = EXPORTS['crates.txt'].replace(':', '').split()
+EXPORTS[FLOORS] = '    floor  rooms\n        1  ' + '  '.join(ALL) + '\n\n' + ''.join(f'- `{c}`: words\n' for c in ALL)
 # What is planted there: a file, its words, others for them, and a word of what is then said.
 CHANGED = [
     (HEADER, 'uint8_t event_type, uint8_t sensor_type', 'uint8_t sensor_type, uint8_t event_type', 'include/sel.h: SelAnswer sel_text('),
@@ -231,9 +255,10 @@ def tried(tree):
 
 bad = [f'the tree without fault: {x}' for x in tried(GOOD)]
 # Trees without fault: a listed part writer; theorems over data, in a section and on several lines; a promise; a premise; a notion that a
-# definition uses; a theorem inside a proved one; data by its cases; a function in a module of the crate's own; data in data.
+# definition uses; a theorem inside a proved one; data by its cases; a function in a module of the crate's own; names of functions on
+# two lines; data in data; a second floor; wide code, a table's row and a link; samples.
 PASSES = [
-    {LIB: PUT, PAGE: ROWS.replace('clear', 'put') + '\n## Exceptions\n\n- `a::put` requires room for a byte\n'},
+    {LIB: PUT, PAGE: STATED.replace('clear', 'put') + '\n## Exceptions\n\n- `a::put` requires room for a byte\n'},
     {PROOF: 'module _ (n : ℕ) (f : ℕ → Bool) where\n  pub demand :\n      {s : List ℕ} (g : ℕ → ℕ) → Demand\n  demand = it\n'},
     {LIB: CLEAR.replace('⌜ now', '⌜ Demand × now'), PROOF: ''},
     {SPEC: THEOREM.replace('n ≡ n', 'Small n → n ≡ n') + '\npub record Small\n    (n : ℕ)\n    : Type 0 where\n  pub small : n < 3\n'},
@@ -241,7 +266,11 @@ PASSES = [
     {SPEC: GOOD[SPEC] + '\npub record All : Type 0 where\n  pub demand : (n : ℕ) → n < 3 → Demand\n', PROOF: 'pub all : All\nall = it\n'},
     {SPEC: GOOD[SPEC] + '\npub data Either : Type 0 where\n  left : Data → Either\n  right : List ℕ → Either → Either\n', PROOF: 'pub demand : (e : Either) → Demand\ndemand e = it\n'},
     {LIB: 'mod part;\n', 'crates/a/src/part.rt': CLEAR},
+    {LIB: CLEAR + '\n' + CLEAR.replace('clear', 'more'), PAGE: STATED.replace('`clear`', '`clear`,\n  `more`')},
     {SPEC: GOOD[SPEC] + '\npub record Pair : Type 0 where\n  pub first : Data\n  pub rest : List Data\n'},
+    TWO,
+    {'docs/MORE.md': f'Code:\n\n    {WIDE}\n    {WIDE}\n```\n{WIDE}```\n\n| {"x" * 156} |\n- [{"x" * 60}](../{"x" * 60})\n'},
+    SAMPLE,
 ]
 bad += [f'tree {n} without fault: {x}' for n, tree in enumerate(PASSES, 1) for x in tried({**GOOD, **tree})]
 # The tree that exports to C, and the same where ffi.rs leaves a function out, and with other spaces and comments in the header.

@@ -1,117 +1,73 @@
--- The theorems of specs/LengthSays.antt: a length's number is that of `length_answer`, and a kind's question is decided by its own number. Assumes nothing.
-use Prim.Native.Nat.{ℕ}
-use mathlib.Core.Path.{_≡_, refl, sym, ap, subst, _∙_}
+-- The theorems of specs/LengthSays.antt: a length's number is that of `length_answer`. Assumes nothing.
+use Prim.Native.Nat.{ℕ, _≤_}
+use mathlib.Core.Path.{_≡_, refl, sym, ap, _∙_}
 use mathlib.Core.Bool.{Bool, true, false}
 use mathlib.Core.List.{List, []}
 use native.Mathlib.Omega.{arith}
-use borrow.Author.Tests.{eq-eqb}
-use lib.ListN.{length, take}
-use Rattle.field.specs.Handed.{Handed, handed}
+use lib.ListN.{length}
+use Rattle.field.specs.Handed.{short}
 use Rattle.connection.specs.Channel.{validChannel}
-use Rattle.sel_commands.specs.Length.{bytesThatCount, lengthAnswer, lengthHands, refusedLength}
-use Rattle.sel_commands.specs.Rows.{handsOf}
-use Rattle.sel_commands.specs.declared.length.AnswerKind.{AnswerKind}
-use Rattle.sel_commands.specs.declared.length.LengthAnswer.{LengthAnswer}
-use Rattle.sel_commands.proofs.BytesThatCount.{bytes-that-count, enough}
-use Rattle.sel_commands.proofs.LengthDecides.{decides}
-use Rattle.sel_commands.proofs.Rows.{answer-rows}
+use Rattle.answers.specs.Length.{bytesThatCount, lengthAnswer, lengthHands, refusedLength}
+use Rattle.answers.specs.declared.AnswerKind.{AnswerKind}
+use Rattle.answers.specs.declared.LengthAnswer.{LengthAnswer}
+use Rattle.answers.proofs.BytesThatCount.{bytes-that-count, enough}
+use Rattle.answers.proofs.LengthDecides.{decides}
+use Rattle.answers.proofs.Rows.{answer-rows}
 use Rattle.capture.specs.Length.{badLength, slotsAnswer, slotsHands}
 use Rattle.capture.specs.Walk.{walkOf}
 use Rattle.capture.specs.Walked.{numberOf as walkedNumber}
 use Rattle.capture.specs.declared.SlotsAnswer.{SlotsAnswer}
 use Rattle.capture.specs.declared.Verdict.{Verdict}
 use Rattle.capture.proofs.SlotsLength.{slots-length}
-use Rattle.flat_form.specs.Form.{Flat, decided, flatAnswer, taken}
-use Rattle.flat_entry.specs.Records.{entryFlat, getEntryFlat}
-use Rattle.flat_answers.specs.Answers.{allocationFlat, clearFlat, infoFlat, reserveFlat}
-use Rattle.flat.specs.Kinds.{flatOf}
-use Rattle.flat.specs.Rows.{kindOf}
+use Rattle.flat_form.specs.declared.SelAnswer.{SelAnswer}
+use Rattle.flat.specs.Letters.{kindOf}
+use Rattle.flat.specs.declared.Kind.{Kind}
 use Rattle.flat.proofs.Counts.{flat-counts}
-use Rattle.flat.proofs.Rows.{flat-rows}
-use Rattle.flat_letters.specs.Letters.{letterFlat}
-use Rattle.abi.specs.LengthSays.{LengthSays, SlotsSay, letterOf}
-use Rattle.abi.specs.Questions.{askedKind, lengthNumber, letterBytes, questionOf}
-use Rattle.abi.specs.Says.{Says}
+use Rattle.flat.proofs.Rows.{flat-rows, flat-taken}
+use Rattle.abi.specs.LengthSays.{LengthSays, SlotsSay}
+use Rattle.abi.specs.Questions.{lengthNumber, letterBytes, ofAnswer}
 use Rattle.abi.specs.Walks.{Walks, walkAnswer}
-use Rattle.abi.specs.declared.SelAnswer.{SelAnswer}
 use Rattle.abi.specs.declared.walk.SelWalk.{SelWalk}
-use Rattle.abi.proofs.Untouched.{given, number-of}
 
-question-is : (kind : AnswerKind) (s : List ℕ) → questionOf (letterOf kind) s ≡ flatOf (kindOf kind) s
-unfolding questionOf letterFlat
-question-is AnswerKind.Entry s = refl
-question-is AnswerKind.GetEntry s = refl
-question-is AnswerKind.Info s = refl
-question-is AnswerKind.Allocation s = refl
-question-is AnswerKind.Reserve s = refl
-question-is AnswerKind.Clear s = refl
+module _ (letter : ℕ) (kind : AnswerKind) (names : kindOf letter ≡ Kind.Answer kind) (n : ℕ) where
+  length-is : lengthNumber letter n ≡ lengthHands kind n .number
+  length-is = ap (ofAnswer (λ (k : AnswerKind). lengthHands k n .number) 255) names
 
-bytes-are : (kind : AnswerKind) → letterBytes (letterOf kind) ≡ bytesThatCount kind
-unfolding askedKind
-bytes-are AnswerKind.Entry = refl
-bytes-are AnswerKind.GetEntry = refl
-bytes-are AnswerKind.Info = refl
-bytes-are AnswerKind.Allocation = refl
-bytes-are AnswerKind.Reserve = refl
-bytes-are AnswerKind.Clear = refl
+  bytes-are : letterBytes letter ≡ bytesThatCount kind
+  bytes-are = ap (ofAnswer bytesThatCount 0) names
 
-length-is : (kind : AnswerKind) (n : ℕ) → lengthNumber (letterOf kind) n ≡ lengthHands kind n .number
-unfolding askedKind
-length-is AnswerKind.Entry n = refl
-length-is AnswerKind.GetEntry n = refl
-length-is AnswerKind.Info n = refl
-length-is AnswerKind.Allocation n = refl
-length-is AnswerKind.Reserve n = refl
-length-is AnswerKind.Clear n = refl
+  told : lengthNumber letter n ≡ 1 → lengthAnswer kind n ≡ LengthAnswer.NotEnoughData
+  unfolding lengthAnswer
+  told z = by (refusedLength kind n) refl (sym length-is ∙ z)
+    where
+      by : (b : Bool) → refusedLength kind n ≡ b → lengthHands kind n .number ≡ 1 → lengthAnswer kind n ≡ LengthAnswer.NotEnoughData
+      by true e y = rw e
+      by false e y = absurd (omega (arith, rw e at y))
 
-is-taken : (h : Handed) (flat : List ℕ) → h .number ≡ 0 → decided h flat ≡ taken flat
-unfolding decided
-is-taken h flat e = rw (eq-eqb (h .number) 0 e)
+  else-read : (lengthNumber letter n ≡ 1 → ⊥) → (lengthNumber letter n ≡ 0) × (lengthAnswer kind n ≡ LengthAnswer.MayBeRead)
+  unfolding lengthAnswer
+  else-read z = by (refusedLength kind n) refl (λ y. z (length-is ∙ y))
+    where
+      by : (b : Bool) → refusedLength kind n ≡ b → (lengthHands kind n .number ≡ 1 → ⊥) → (lengthNumber letter n ≡ 0) × (lengthAnswer kind n ≡ LengthAnswer.MayBeRead)
+      by true e y = absurd (y (rw e))
+      by false e y = let w = length-is in (rw e at w, rw e)
 
-accepted : (kind : AnswerKind) (s : List ℕ) → handsOf validChannel kind s .number ≡ 0 → (flat : List ℕ) × (flatOf (kindOf kind) s ≡ taken flat)
-unfolding entryFlat getEntryFlat infoFlat allocationFlat reserveFlat clearFlat
-accepted AnswerKind.Entry s e = (_, is-taken _ _ e)
-accepted AnswerKind.GetEntry s e = (_, is-taken _ _ e)
-accepted AnswerKind.Info s e = (_, is-taken _ _ e)
-accepted AnswerKind.Allocation s e = (_, is-taken _ _ e)
-accepted AnswerKind.Reserve s e = (_, is-taken _ _ e)
-accepted AnswerKind.Clear s e = (_, is-taken _ _ e)
+  may-be-read : lengthNumber letter n ≡ 0 → lengthAnswer kind n ≡ LengthAnswer.MayBeRead
+  may-be-read z = else-read (λ o. omega arith) .1
 
-module _ (kind : AnswerKind) (n : ℕ) where
-  number-told : (b : Bool) → refusedLength kind n ≡ b → lengthNumber (letterOf kind) n ≡ 1 → lengthAnswer kind n ≡ LengthAnswer.NotEnoughData
-  unfolding lengthHands lengthAnswer
-  number-told true e z = rw e
-  number-told false e z = let w = length-is kind n in let x = rw e at w in absurd (omega (arith, x, z))
-
-  number-else : (b : Bool) → refusedLength kind n ≡ b → (lengthNumber (letterOf kind) n ≡ 1 → ⊥)
-      → (lengthNumber (letterOf kind) n ≡ 0) × (lengthAnswer kind n ≡ LengthAnswer.MayBeRead)
-  unfolding lengthHands lengthAnswer
-  number-else true e z = let w = length-is kind n in absurd (z (rw e at w))
-  number-else false e z = let w = length-is kind n in (rw e at w, rw e)
-
-  one : (s out left : List ℕ) (r : SelAnswer) → handsOf validChannel kind s ≡ handed 1 [] → Says (questionOf (letterOf kind) s) out r left → r .number ≡ 1
-  one s out left r h p =
-      let f = flatOf (kindOf kind) s in
-      let q : Says f out r left = subst (λ (x : Flat). Says x out r left) (question-is kind s) p in
-      let number = ap (λ (x : Handed). x .number) h in
-      let short = answer-rows validChannel kind s .rows .one .0 number in
-      ap (λ (x : SelAnswer). x .number) (q .answered) ∙ number-of (flatAnswer f out) ∙ flat-rows kind s out left (flatAnswer f out) .one (given f out q) .1 short
-
-  told : lengthNumber (letterOf kind) n ≡ 0 → lengthAnswer kind n ≡ LengthAnswer.MayBeRead
-  told z = number-else (refusedLength kind n) refl (λ o. omega arith) .1
-
-  pub length-says : LengthSays kind n
+  pub length-says : LengthSays letter kind names n
   length-says = record {
-    refused = λ z s out left r a p. one s out left r (decides validChannel kind n .refused .0 (number-told (refusedLength kind n) refl z) s a) p;
+    refused = λ z s out left r a g.
+        let e = decides validChannel kind n .refused .0 (told z) s a in
+        let row = answer-rows validChannel kind s .rows .exactly (short (bytesThatCount kind)) .0 e in
+        ap (λ (x : SelAnswer). x .number) (flat-rows letter kind names s out left r .refused g _ row (λ y. omega (arith, y)));
     readable = λ z.
-        let e = number-else (refusedLength kind n) refl z in
+        let e = else-read z in
         let d = decides validChannel kind n .readable (e .1) in
-        let t = accepted kind (d .0) (d .2) in
-        (e .0, (d .0, d .1, (t .0, question-is kind (d .0) ∙ t .1)));
-    there = λ z. rw (bytes-are kind) (enough validChannel kind n (told z));
-    few = rw (bytes-are kind) (bytes-that-count validChannel kind [] .few);
-    cut = λ z s e.
-        rw (bytes-are kind) (question-is kind (take (bytesThatCount kind) s) ∙ flat-counts kind s .same (rw e (told z)) ∙ sym (question-is kind s));
+        (e .0, (d .0, d .1, flat-taken letter kind names (d .0) (d .2)));
+    there = λ z. rw bytes-are (enough kind n (may-be-read z));
+    few = rw bytes-are (bytes-that-count validChannel kind [] .few);
+    cut = λ z s e. rw bytes-are (flat-counts letter kind names s .same (rw e (may-be-read z)));
   }
 
 -- the walk's number, in both forms of its answer
@@ -125,12 +81,12 @@ walk-number Verdict.BadCapture = refl
 
 module _ (len : ℕ) where
   slots-told : (b : Bool) → badLength len ≡ b → slotsHands len .number ≡ 5 → slotsAnswer len ≡ SlotsAnswer.BadCapture
-  unfolding slotsHands slotsAnswer
+  unfolding slotsAnswer
   slots-told true e z = rw e
   slots-told false e z = absurd (omega (arith, rw e at z))
 
   slots-else : (b : Bool) → badLength len ≡ b → (slotsHands len .number ≡ 5 → ⊥) → (slotsHands len .number ≡ 0) × (slotsAnswer len ≡ SlotsAnswer.MayBeWalked)
-  unfolding slotsHands slotsAnswer
+  unfolding slotsAnswer
   slots-else true e z = absurd (z (rw e))
   slots-else false e z = (rw e, rw e)
 

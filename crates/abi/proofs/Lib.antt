@@ -1,6 +1,4 @@
 pub mod FromStore
 pub mod Laws
 pub mod LengthSays
-pub mod Sizes
-pub mod Untouched
 pub mod Walking

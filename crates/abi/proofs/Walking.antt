@@ -13,26 +13,18 @@ use Rattle.capture.specs.Listing.{readOf}
 use Rattle.capture.specs.Refusals.{Bad}
 use Rattle.capture.specs.Slots.{count, firstSlot}
 use Rattle.capture.specs.Walk.{verdict, walkOf}
-use Rattle.capture.specs.Walked.{Walked, numberOf}
+use Rattle.capture.specs.Walked.{Walked}
 use Rattle.capture.specs.declared.Found.{Found}
 use Rattle.capture.specs.declared.Verdict.{Verdict}
 use Rattle.capture.proofs.Answer.{Answer, bad, short, goes, answer}
 use Rattle.capture.proofs.Listing.{counted, few}
 use Rattle.capture.proofs.Ran.{Ran, spends, rounds, ends, lacks, ran}
-use Rattle.abi.specs.Walks.{Walks, found, foundAnswer, walkAnswer, walkNumber}
+use Rattle.abi.specs.Walks.{Walks, foundAnswer, walkAnswer}
 use Rattle.abi.specs.declared.walk.SelWalk.{SelWalk}
 
 -- what the search answers, of what it found
 pub found-is : (s : List ℕ) (id : ℕ) {x : RecordId} {f g : Found} → f ≡ firstSlot s (x .0) → x ≡ recordId id → f ≡ g → foundAnswer g ≡ foundAnswer (firstSlot s id)
 found-is s id p i e = ap foundAnswer (sym e ∙ p ∙ ap (λ (x : RecordId). firstSlot s (x .0)) i)
-
-same-number : (v : Verdict) → walkNumber (walkAnswer v) ≡ numberOf v
-same-number (Verdict.Ended read) = refl
-same-number (Verdict.Missing ask read) = refl
-same-number (Verdict.Spent ask read) = refl
-same-number (Verdict.Circle read) = refl
-same-number (Verdict.NoRoom n) = refl
-same-number Verdict.BadCapture = refl
 
 -- the count that an answer carries: of the slots read, or of the places needed
 abbrev pub countOf : Verdict → ℕ
@@ -76,6 +68,5 @@ module _ (s : List ℕ) (b : ℕ) (old : List ℕ) where
     walks e =
         record {
           answered = e ∙ ap walkAnswer (p .answered);
-          numbered = ap walkNumber e ∙ same-number v ∙ p .numbered;
           leaves = p .leaves;
         }

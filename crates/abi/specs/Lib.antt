@@ -2,7 +2,5 @@ pub mod Filled
 pub mod FromStore
 pub mod LengthSays
 pub mod Questions
-pub mod Says
-pub mod Sizes
-pub mod Untouched
+pub mod Units
 pub mod Walks

@@ -1,14 +1,9 @@
 -- The walk over a capture, and the search for a slot, in numbers. Assumes nothing.
 use Prim.Native.Nat.{ℕ}
 use mathlib.Core.Path.{_≡_}
-use mathlib.Core.Bool.{_||_}
-use mathlib.Core.List.{List, [], _∷_}
-use lib.Dec.{eqb}
+use mathlib.Core.List.{List}
 use lib.ListN.{length}
-use Rattle.field.specs.Choose.{if_then_else_}
-use Rattle.field.specs.Handed.{Handed, handed}
 use Rattle.capture.specs.Walk.{listAfter, walkOf}
-use Rattle.capture.specs.Walked.{walkHands}
 use Rattle.capture.specs.declared.Found.{Found}
 use Rattle.capture.specs.declared.Verdict.{Verdict}
 use Rattle.abi.specs.declared.walk.SelFound.{SelFound}
@@ -33,15 +28,7 @@ walkAnswer (Verdict.Circle read) = walked 0 3 0 read 0
 walkAnswer (Verdict.NoRoom n) = walked 4 0 0 0 n
 walkAnswer Verdict.BadCapture = walked 5 0 0 0 0
 
--- the number, and what it carries: of a verdict which one it is, the id where it has one, and `read`; 4 the places needed
-abbrev pub walkNumber : SelWalk → Handed
-walkNumber r =
-    if eqb (r .number) 0 then handed 0 (r .verdict ∷ (if eqb (r .verdict) 1 || eqb (r .verdict) 2 then r .ask ∷ r .read ∷ [] else r .read ∷ [])) else
-    if eqb (r .number) 4 then handed 4 (r .needed ∷ []) else
-    handed (r .number) []
-
--- The promise of the walk: what it answers, the number of that, and what it leaves of the lent list.
+-- The promise of the walk: what it answers, and what it leaves of the lent list.
 pub record Walks (s : List ℕ) (b : ℕ) (old : List ℕ) (r : SelWalk) (left : List ℕ) : Type 0 where
   pub answered : r ≡ walkAnswer (walkOf s b (length old))
-  pub numbered : walkNumber r ≡ walkHands s b (length old)
   pub leaves : left ≡ listAfter s b old

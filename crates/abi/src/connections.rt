@@ -1,17 +1,19 @@
 // Channels and logical units, by their numbers.
-use crate::NO_QUESTION;
-use crate::SelAnswer;
 use connection::Channel;
 use connection::LogicalUnit;
 use connection::NewChannel;
 use connection::NewUnit;
+use flat_form::SelAnswer;
+use flat_form::no_question;
+use flat_form::refused;
 ghost use mathlib.Core.Path.{_≡_};
 ghost use Rattle.connection.specs.Channel.{channelHands, validChannel};
-ghost use Rattle.abi.specs.Says.{named, unitHands};
+ghost use Rattle.flat_form.specs.Form.{refusal};
+ghost use Rattle.abi.specs.Units.{unitHands};
 
 #[no_mangle]
 pub extern "C" fn sel_channel(number: u8) -> SelAnswer
-    ensures { λ r. ⌜ r ≡ named (channelHands validChannel number) ⌝ }
+    ensures { λ r. ⌜ r ≡ refusal (channelHands validChannel number) ⌝ }
 {
     match Channel::new(number) {
         NewChannel::Valid(channel) => SelAnswer {
@@ -19,17 +21,13 @@ pub extern "C" fn sel_channel(number: u8) -> SelAnswer
             value: channel.value() as u32,
             length: 0,
         },
-        NewChannel::Invalid(n) => SelAnswer {
-            number: 3,
-            value: n as u32,
-            length: 0,
-        },
+        NewChannel::Invalid(n) => refused(3, n as u32),
     }
 }
 
 #[no_mangle]
 pub extern "C" fn sel_unit(number: u8) -> SelAnswer
-    ensures { λ r. ⌜ r ≡ named (unitHands number) ⌝ }
+    ensures { λ r. ⌜ r ≡ refusal (unitHands number) ⌝ }
 {
     match LogicalUnit::new(number) {
         NewUnit::Valid(unit) => SelAnswer {
@@ -37,10 +35,6 @@ pub extern "C" fn sel_unit(number: u8) -> SelAnswer
             value: unit.value() as u32,
             length: 0,
         },
-        NewUnit::Invalid => SelAnswer {
-            number: NO_QUESTION,
-            value: 0,
-            length: 0,
-        },
+        NewUnit::Invalid => no_question(),
     }
 }

@@ -1,7 +1,6 @@
 // The texts of events, of event data and of times.
-use crate::SelAnswer;
-use crate::answer_of;
 use event_data::EventData;
+use flat_form::SelAnswer;
 use flat_form::of_written;
 use storage::Timestamp;
 ghost use mathlib.Core.List.{[], _∷_};
@@ -10,9 +9,8 @@ ghost use Rattle.event_data.specs.DataText.{dataText};
 ghost use Rattle.event_data.specs.EventData.{eventDataOf};
 ghost use Rattle.event_offset.specs.Event.{eventText};
 ghost use Rattle.event_offset.specs.Places.{lentText};
-ghost use Rattle.flat_form.specs.Form.{taken};
+ghost use Rattle.flat_form.specs.Form.{Gives, taken};
 ghost use Rattle.abi.specs.Filled.{Filled};
-ghost use Rattle.abi.specs.Says.{Says};
 
 #[no_mangle]
 pub extern "C" fn sel_event_text(
@@ -21,10 +19,10 @@ pub extern "C" fn sel_event_text(
     offset: u8,
     out: &mut [u8],
 ) -> SelAnswer
-    ensures { λ r. ⌜ Says (taken (eventText «event_type» «sensor_type» offset)) (now (out .entry)) r (now (out .exit)) ⌝ }
+    ensures { λ r. ⌜ Gives (taken (eventText «event_type» «sensor_type» offset)) (now (out .entry)) r (now (out .exit)) ⌝ }
 {
     let w = event_offset::decode_event(event_type, sensor_type, offset, out);
-    answer_of(of_written(w))
+    of_written(w)
 }
 
 // The same from a lent store and its tables.
@@ -38,7 +36,7 @@ pub extern "C" fn sel_event_text_from<'a>(
     offset: u8,
     out: &mut [u8],
 ) -> SelAnswer
-    ensures { λ r. ⌜ Says (taken (lentText (now (store .entry)) (now (starts .entry)) (now (lengths .entry)) «event_type» «sensor_type» offset)) (now (out .entry)) r (now (out .exit)) ⌝ }
+    ensures { λ r. ⌜ Gives (taken (lentText (now (store .entry)) (now (starts .entry)) (now (lengths .entry)) «event_type» «sensor_type» offset)) (now (out .entry)) r (now (out .exit)) ⌝ }
 {
     let w = event_offset::decode_event_from(
         store,
@@ -49,7 +47,7 @@ pub extern "C" fn sel_event_text_from<'a>(
         offset,
         out,
     );
-    answer_of(of_written(w))
+    of_written(w)
 }
 
 // Fills the store and its tables, which are then lent for many texts.
@@ -57,24 +55,24 @@ pub extern "C" fn sel_event_text_from<'a>(
 pub extern "C" fn sel_texts(store: &mut [u8], starts: &mut [u16], lengths: &mut [u8]) -> SelAnswer
     ensures { λ r. ⌜ Filled (now (store .entry)) (now (starts .entry)) (now (lengths .entry)) r (now (store .exit)) (now (starts .exit)) (now (lengths .exit)) ⌝ }
 {
-    let w = lent_texts::fill(store, starts, lengths);
-    answer_of(of_written(w))
+    let w = event_offset::fill_texts(store, starts, lengths);
+    of_written(w)
 }
 
 #[no_mangle]
 pub extern "C" fn sel_data_text(b1: u8, b2: u8, b3: u8, out: &mut [u8]) -> SelAnswer
-    ensures { λ r. ⌜ Says (taken (dataText (eventDataOf (b1 ∷ b2 ∷ b3 ∷ [])))) (now (out .entry)) r (now (out .exit)) ⌝ }
+    ensures { λ r. ⌜ Gives (taken (dataText (eventDataOf (b1 ∷ b2 ∷ b3 ∷ [])))) (now (out .entry)) r (now (out .exit)) ⌝ }
 {
     let d = EventData::parse(&[b1, b2, b3]);
     let w = d.write_text(out);
-    answer_of(of_written(w))
+    of_written(w)
 }
 
 #[no_mangle]
 pub extern "C" fn sel_time_text(time: u32, out: &mut [u8]) -> SelAnswer
-    ensures { λ r. ⌜ Says (taken (timeText time)) (now (out .entry)) r (now (out .exit)) ⌝ }
+    ensures { λ r. ⌜ Gives (taken (timeText time)) (now (out .entry)) r (now (out .exit)) ⌝ }
 {
     let t = Timestamp::from_u32(time);
     let w = t.write_text(out);
-    answer_of(of_written(w))
+    of_written(w)
 }

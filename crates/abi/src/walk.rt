@@ -19,8 +19,8 @@ pub struct SelFound {
 #[repr(C)]
 pub struct SelWalk {
     pub number: u32,
-    pub verdict: u32,
-    pub ask: u32,
+    pub verdict: u16,
+    pub ask: u16,
     pub read: u32,
     pub needed: u32,
 }
@@ -61,14 +61,14 @@ pub extern "C" fn sel_walk(slots: &[u8], budget: usize, list: &mut [u16]) -> Sel
         Verdict::Missing { ask, read } => SelWalk {
             number: 0,
             verdict: 1,
-            ask: ask.value() as u32,
+            ask: ask.value(),
             read: read as u32,
             needed: 0,
         },
         Verdict::Spent { ask, read } => SelWalk {
             number: 0,
             verdict: 2,
-            ask: ask.value() as u32,
+            ask: ask.value(),
             read: read as u32,
             needed: 0,
         },

@@ -19,12 +19,12 @@ use Rattle.connection.specs.Channel.{validChannel}
 use Rattle.sel.specs.Entry.{channelIn, typeAt}
 use Rattle.sel.specs.Numbers.{entryHands}
 use Rattle.sel.specs.Rows.{GoodRecord, InvalidChannel, Rows, UnknownType}
-use Rattle.sel_commands.specs.Answer.{Answer, numberOf}
-use Rattle.sel_commands.specs.Rows.{Accepted, Invalid, NotEnough, Unknown, handsOf, recordOf}
-use Rattle.sel_commands.specs.declared.length.AnswerKind.{AnswerKind}
-use Rattle.sel_commands.proofs.BytesThatCount.{bytes-that-count}
-use Rattle.sel_commands.proofs.LengthDecides.{decides}
-use Rattle.sel_commands.proofs.Rows.{answer-rows}
+use Rattle.answers.specs.Answer.{Answer, numberOf}
+use Rattle.answers.specs.Rows.{Accepted, Invalid, NotEnough, Unknown, handsOf, recordOf}
+use Rattle.answers.specs.declared.AnswerKind.{AnswerKind}
+use Rattle.answers.proofs.BytesThatCount.{bytes-that-count}
+use Rattle.answers.proofs.LengthDecides.{decides}
+use Rattle.answers.proofs.Rows.{answer-rows}
 use Rattle.capture.specs.Walked.{Walked, numberOf as walkNumber}
 use Rattle.capture.specs.declared.Verdict.{Verdict}
 use Rattle.capture.proofs.Refusals.{refusals}
@@ -37,7 +37,7 @@ use Rattle.flat_event.specs.Event.{eventDataFlat}
 use Rattle.flat_entry.specs.Records.{entryFlat, getEntryFlat, recordPartFlat}
 use Rattle.flat_answers.specs.Answers.{allocationFlat, clearFlat, infoFlat, recordIdFlat, reserveFlat}
 use Rattle.flat_texts.specs.Texts.{entryTextFlat, eventDataTextFlat, eventTextFlat, timeTextFlat}
-use Rattle.flat_requests.specs.Requests.{clearOf, questionLength, requestFlat, requestOf}
+use Rattle.flat.specs.Requests.{clearOf, questionLength, requestFlat, requestOf}
 use Rattle.flat.specs.Kinds.{flatOf}
 use Rattle.flat.specs.declared.Kind.{Kind}
 use Rattle.flat.proofs.Counts.{flat-counts}

@@ -45,7 +45,7 @@ use Rattle.sel_commands.specs.declared.clear.ClearAnswer.{ClearAnswer}
 use Rattle.sel_commands.specs.declared.clear.ErasureProgress.{ErasureProgress}
 use Rattle.sel_commands.specs.declared.get_info.Info.{Info}
 use Rattle.sel_commands.specs.declared.get_info.InfoAnswer.{InfoAnswer}
-use Rattle.sel_commands.specs.declared.length.AnswerKind.{AnswerKind}
+use Rattle.answers.specs.declared.AnswerKind.{AnswerKind}
 use Rattle.sel_commands.specs.declared.reserve.ReserveAnswer.{ReserveAnswer}
 use Rattle.claims.specs.Fields.{AllocFields, ChannelIs, Decoded, EventDataFields, InfoFields, PlainFields, StampedFields, SystemFields, UnitIs}
 use Rattle.claims.specs.Promises.{Promised}

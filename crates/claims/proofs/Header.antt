@@ -3,7 +3,7 @@ use Prim.Native.Nat.{ℕ}
 use mathlib.Core.Path.{_≡_, ap, _∙_}
 use mathlib.Core.List.{List}
 use lib.ListN.{length}
-use Rattle.lent_texts.specs.Fills.{fillAnswer}
+use Rattle.event_offset.specs.Fills.{fillAnswer}
 use Rattle.capture.specs.Walk.{walkOf}
 use Rattle.capture.proofs.Refusals.{refusals}
 use Rattle.abi.specs.Filled.{Filled}

@@ -5,7 +5,7 @@ use borrow.Author.Tests.{le-leb}
 use lib.ListN.{length}
 use Rattle.get_entry.specs.GetEntry.{entryRequest}
 use Rattle.sel_commands.specs.Clear.{clearRequest}
-use Rattle.flat_requests.specs.Requests.{requestOf}
+use Rattle.flat.specs.Requests.{requestOf}
 use Rattle.claims.specs.Requests.{Requests}
 
 pub requests : Requests

@@ -16,7 +16,7 @@ use Rattle.event_data.specs.DataText.{data2Text, data3Text, dataText, joined, u
 use Rattle.event_offset.specs.Event.{eventText, textsOf}
 use Rattle.event_offset.specs.Tables.{table-42-2, table-42-3}
 use Rattle.event_offset.proofs.Holding.{lent}
-use Rattle.lent_texts.proofs.FilledGives.{filled-gives}
+use Rattle.event_offset.proofs.FilledGives.{filled-gives}
 use Rattle.claims.specs.Texts.{DataTexts, EventTexts, TimeTexts, Writes}
 
 module _ (event sensor offset : ℕ) where

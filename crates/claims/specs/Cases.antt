@@ -13,12 +13,12 @@ use Rattle.event_data.specs.declared.EventData2Type.{EventData2Type}
 use Rattle.event_data.specs.declared.EventData3Type.{EventData3Type}
 use Rattle.ids.specs.Ids.{recordId}
 use Rattle.sel.specs.declared.ParsedEntry.{ParsedEntry}
-use Rattle.sel_commands.specs.Answer.{numberOf}
+use Rattle.answers.specs.Answer.{numberOf}
 use Rattle.sel_commands.specs.declared.clear.ClearAnswer.{ClearAnswer}
 use Rattle.sel_commands.specs.declared.clear.ErasureProgress.{ErasureProgress}
 use Rattle.sel_commands.specs.declared.get_info.Info.{Info}
 use Rattle.sel_commands.specs.declared.get_info.InfoAnswer.{InfoAnswer}
-use Rattle.sel_commands.specs.declared.length.AnswerKind.{AnswerKind}
+use Rattle.answers.specs.declared.AnswerKind.{AnswerKind}
 use Rattle.sel_commands.specs.declared.reserve.ReserveAnswer.{ReserveAnswer}
 use Rattle.capture.specs.Slots.{askedOf, nextOf}
 use Rattle.capture.specs.Walked.{Walked}

@@ -7,26 +7,27 @@ use mathlib.Core.List.{List, [], _∷_}
 use mathlib.Core.Logic.{_↔_, _⊎_}
 use lib.ListN.{length, getD, take}
 use Rattle.field.specs.Handed.{Answers, Handed, handed}
+use Rattle.field.specs.Rows.{Rows}
 use Rattle.text.specs.Room.{Room}
 use Rattle.text.specs.Written.{Wrote, numberOf as writtenNumber}
 use Rattle.text.specs.declared.Written.{Written}
 use Rattle.connection.specs.Channel.{validChannel}
-use Rattle.sel.specs.Rows.{Rows}
-use Rattle.sel_commands.specs.Answer.{Answer, numberOf}
-use Rattle.sel_commands.specs.BytesThatCount.{BytesThatCount}
-use Rattle.sel_commands.specs.Length.{bytesThatCount, lengthAnswer}
-use Rattle.sel_commands.specs.LengthDecides.{LengthDecides}
-use Rattle.sel_commands.specs.Rows.{Accepted, Invalid, NotEnough, Unknown, recordOf}
-use Rattle.sel_commands.specs.declared.length.AnswerKind.{AnswerKind}
-use Rattle.sel_commands.specs.declared.length.LengthAnswer.{LengthAnswer}
+use Rattle.answers.specs.Answer.{Answer, numberOf}
+use Rattle.answers.specs.BytesThatCount.{BytesThatCount}
+use Rattle.answers.specs.Length.{bytesThatCount, lengthAnswer}
+use Rattle.answers.specs.LengthDecides.{LengthDecides}
+use Rattle.answers.specs.Rows.{Row}
+use Rattle.answers.specs.declared.AnswerKind.{AnswerKind}
+use Rattle.answers.specs.declared.LengthAnswer.{LengthAnswer}
 use Rattle.capture.specs.Refusals.{Refusals}
 use Rattle.capture.specs.SlotsLength.{SlotsLength}
 use Rattle.capture.specs.Walked.{Walked, numberOf as walkNumber}
 use Rattle.capture.specs.declared.Verdict.{Verdict}
-use Rattle.flat_form.specs.Form.{Flat, Gives, taken, numberOf as flatNumber}
-use Rattle.flat_form.specs.declared.FlatAnswer.{FlatAnswer}
+use Rattle.flat_form.specs.Form.{Flat, Gives, said, taken}
+use Rattle.flat_form.specs.declared.SelAnswer.{SelAnswer}
 use Rattle.flat.specs.Counts.{FlatCounts}
 use Rattle.flat.specs.Kinds.{flatOf}
+use Rattle.flat.specs.Letters.{kindOf}
 use Rattle.flat.specs.Rows.{FlatRows}
 use Rattle.flat.specs.declared.Kind.{Kind}
 use Rattle.slot_line.specs.Input.{inputHands, judgeInput, lineForm, lines, numberOf as inputNumber}
@@ -62,27 +63,25 @@ abbrev pub OneTooMany : List ℕ → Type 0
 OneTooMany input = (3000 < length (lines input)) × GoodLines input 3001
 
 pub record Demand1 : Type 0 where
-  -- rows 0 to 3: whatever a parser answers, its number is given exactly when the row of its kind says, and carries what the row says
-  pub parsed : (kind : AnswerKind) (s : List ℕ) (r : Answer kind) → Promised kind r s
-      → Rows (numberOf kind r) (Accepted validChannel kind s) (NotEnough kind s) (Unknown kind s) (Invalid validChannel kind s) (recordOf kind s)
+  -- rows 0 to 3: whatever a parser answers, its number is given, with what it carries, exactly when the row of its kind says
+  pub parsed : (kind : AnswerKind) (s : List ℕ) (r : Answer kind) → Promised kind r s → Rows (numberOf kind r) (Row validChannel kind s)
   -- and one of them is given
   pub decided : (kind : AnswerKind) (s : List ℕ) (r : Answer kind) → Promised kind r s → OneOf (numberOf kind r)
   -- the valid channels that these rows speak of
   pub channels : (n : ℕ) → (validChannel n ≡ true) ↔ Valid n
-  -- the same of `flat`, which reads any bytes as any kind
-  pub flat : (kind : AnswerKind) (s out left : List ℕ) (r : FlatAnswer) → FlatRows kind s out left r
+  -- the same of `flat`, which reads any bytes as the kind that any letter names
+  pub flat : (letter : ℕ) (kind : AnswerKind) (names : kindOf letter ≡ Kind.Answer kind) (s out left : List ℕ) (r : SelAnswer)
+      → FlatRows letter kind names s out left r
   -- where it is asked for the text of a record's event, it refuses as the record is refused
-  pub flatText : (s out left : List ℕ) (r : FlatAnswer) → Gives (flatOf Kind.EntryText s) out r left
-      → ((flatNumber r .number ≡ 1) ↔ NotEnough AnswerKind.Entry s)
-      × ((flatNumber r .number ≡ 2) ↔ Unknown AnswerKind.Entry s)
-      × ((flatNumber r .number ≡ 3) ↔ Invalid validChannel AnswerKind.Entry s)
+  pub flatText : (letter : ℕ) → kindOf letter ≡ Kind.EntryText → (s out left : List ℕ) (r : SelAnswer) → Gives (flatOf letter s) out r left
+      → (n : ℕ) → (n ≡ 0 → ⊥) → (n ≡ 4 → ⊥) → (r .number ≡ n) ↔ ((h : Handed) × Row validChannel AnswerKind.Entry s h × (h .number ≡ n))
   -- row 4: whoever writes a text or a request gives it exactly if the output is shorter, with the length needed
   pub written : (text out left : List ℕ) (r : Written) → Room text out left r
   -- `flat` exactly if its flat bytes are longer than the output
-  pub flatFour : (kind : Kind) (s out left : List ℕ) (r : FlatAnswer) → Gives (flatOf kind s) out r left
-      → (flatNumber r .number ≡ 4) ↔ ((bytes : List ℕ) × (flatOf kind s ≡ taken bytes) × (length out < length bytes))
-  pub flatNeeds : (bytes out left : List ℕ) (r : FlatAnswer) → Gives (taken bytes) out r left → length out < length bytes
-      → flatNumber r ≡ handed 4 (length bytes ∷ [])
+  pub flatFour : (letter : ℕ) (s out left : List ℕ) (r : SelAnswer) → Gives (flatOf letter s) out r left
+      → (r .number ≡ 4) ↔ ((bytes : List ℕ) × (flatOf letter s ≡ taken bytes) × (length out < length bytes))
+  pub flatNeeds : (bytes out left : List ℕ) (r : SelAnswer) → Gives (taken bytes) out r left → length out < length bytes
+      → r ≡ said 4 0 (length bytes)
   -- rows 4 and 5 of the walk
   pub walked : (s : List ℕ) (b : ℕ) (old : List ℕ) → Refusals s b old
   -- row 0 of a capture as text: accepted, with the number of its lines, exactly if there are so many, and all are good
@@ -99,8 +98,7 @@ pub record Demand1 : Type 0 where
       → (inputNumber r ≡ handed 5 []) ↔ OneTooMany input
   -- where any of these refuses, every lent output is as it was
   pub unwritten : (text out left : List ℕ) (r : Written) → Wrote text out r left → (writtenNumber r .number ≡ 0 → ⊥) → left ≡ out
-  pub flatUnwritten : (question : Flat) (out left : List ℕ) (r : FlatAnswer) → Gives question out r left → (flatNumber r .number ≡ 0 → ⊥)
-      → left ≡ out
+  pub flatUnwritten : (question : Flat) (out left : List ℕ) (r : SelAnswer) → Gives question out r left → (r .number ≡ 0 → ⊥) → left ≡ out
   pub unlisted : (s : List ℕ) (b : ℕ) (old left : List ℕ) (r : Verdict) → Walked s b old r left → (walkNumber r .number ≡ 0 → ⊥) → left ≡ old
   pub unread : (input slots list slotsLeft listLeft : List ℕ) (r : Closing) → Logged input slots list r slotsLeft listLeft
       → (logNumber r .number ≡ 0 → ⊥) → (slotsLeft ≡ slots) × (listLeft ≡ list)
@@ -112,4 +110,4 @@ pub record Demand1 : Type 0 where
   -- so whatever a parser answers of an answer whose length may be read, it answers of those bytes alone; and so does `flat`
   pub cut : (kind : AnswerKind) (s : List ℕ) (r r′ : Answer kind) → lengthAnswer kind (length s) ≡ LengthAnswer.MayBeRead
       → Promised kind r s → Promised kind r′ (take (bytesThatCount kind) s) → r ≡ r′
-  pub flatCut : (kind : AnswerKind) (s : List ℕ) → FlatCounts kind s
+  pub flatCut : (letter : ℕ) (kind : AnswerKind) (names : kindOf letter ≡ Kind.Answer kind) (s : List ℕ) → FlatCounts letter kind names s

@@ -4,9 +4,9 @@ use Prim.Native.Nat.{ℕ}
 use mathlib.Core.List.{List}
 use Rattle.field.specs.Handed.{Answers}
 use Rattle.connection.specs.Channel.{validChannel}
-use Rattle.sel_commands.specs.Answer.{Answer, answerOf, numberOf}
-use Rattle.sel_commands.specs.Rows.{handsOf}
-use Rattle.sel_commands.specs.declared.length.AnswerKind.{AnswerKind}
+use Rattle.answers.specs.Answer.{Answer, answerOf, numberOf}
+use Rattle.answers.specs.Rows.{handsOf}
+use Rattle.answers.specs.declared.AnswerKind.{AnswerKind}
 
 -- `Entry::parse`, and `parse_success_response` of GetEntry, GetInfo, GetAllocInfo, ReserveSel and ClearSel
 abbrev pub Promised : (kind : AnswerKind) → Answer kind → List ℕ → Type 0

@@ -1,14 +1,15 @@
 // Answers questions in the flat form: one a line of standard input, one line of answer each. `stdin` and `stdout` are made by oracle/make.
-// Each letter but w is asked of the ported functions and of the library for C and Rust, so that the stored answers hold for both: where the two do not say
-// the same, the line is `differs`, which no stored answer is.
+// A letter is asked of `flat`, which C and Rust call too; a record and a get-entry answer are also asked of their parsers, by a word.
 mod flats;
+mod parsers;
 mod say;
 mod walks;
 mod words;
 
-use flat::Kind;
 use libc::STDIN_FILENO;
+use libc::STDOUT_FILENO;
 use say::say;
+use say::say_byte;
 use say::up_to;
 
 // One place more than the longest question has, a letter, a space and 120,200 digits: a line that fills it is none.
@@ -16,11 +17,16 @@ const LINE: usize = 120203;
 
 const BYTES: usize = 60100;
 
-// What a line asks about: a letter's kind, or one of two words.
+// More than the longest answer has, a walk with 3,001 places lent.
+const ANSWER: usize = 12100;
+
+// What a line asks about: a letter's kind, or one of four words.
 enum Asked {
     Letter(u8),
     Channel,
     Unit,
+    Entry,
+    Answer,
 }
 
 // Whether to read on, and how much of the next line there is.
@@ -56,19 +62,10 @@ fn decode(digits: &[u8], bytes: &mut [u8]) -> bool {
         if 16 <= low {
             return false;
         }
-        put(bytes, i, 16 * high + low);
+        say_byte(16 * high + low, bytes, i);
         i += 1;
     }
     true
-}
-
-// Puts a byte where there is room, and answers the place after it.
-fn put(out: &mut [u8], at: usize, b: u8) -> usize {
-    if at < out.len() {
-        out[at] = b;
-        return at + 1;
-    }
-    at
 }
 
 fn starts_with(line: &[u8], word: &[u8]) -> bool {
@@ -92,68 +89,65 @@ fn from_place(line: &[u8], at: usize) -> &[u8] {
     &line[..0]
 }
 
-fn by_letter(letter: u8, data: &[u8]) {
-    match letter {
-        b'e' => flats::ask(Kind::Entry, letter, data, false),
-        b'y' => flats::ask(Kind::EntryText, letter, data, true),
-        b'g' => flats::ask(Kind::GetEntry, letter, data, false),
-        b'p' => flats::ask(Kind::RecordPart, letter, data, false),
-        b'i' => flats::ask(Kind::Info, letter, data, false),
-        b'a' => flats::ask(Kind::Allocation, letter, data, false),
-        b'r' => flats::ask(Kind::Reserve, letter, data, false),
-        b'c' => flats::ask(Kind::Clear, letter, data, false),
-        b'd' => flats::ask(Kind::EventData, letter, data, false),
-        b'v' => flats::ask(Kind::EventDataText, letter, data, true),
-        b'x' => flats::ask(Kind::EventText, letter, data, true),
-        b't' => flats::ask(Kind::TimeText, letter, data, true),
-        b'n' => flats::ask(Kind::RecordId, letter, data, false),
-        b'q' => flats::ask(Kind::Request, letter, data, false),
-        b'w' => walks::walk(data),
-        _ => say(b"?"),
+fn by_letter(letter: u8, data: &[u8], answer: &mut [u8]) -> usize {
+    if letter == b'w' {
+        return walks::walk(data, answer);
     }
+    flats::ask(letter, data, answer)
 }
 
-fn by_asked(asked: Asked, data: &[u8]) {
+fn by_asked(asked: Asked, data: &[u8], answer: &mut [u8]) -> usize {
     match asked {
-        Asked::Letter(letter) => by_letter(letter, data),
-        Asked::Channel => words::channel(data),
-        Asked::Unit => words::unit(data),
+        Asked::Letter(letter) => by_letter(letter, data, answer),
+        Asked::Channel => words::channel(data, answer),
+        Asked::Unit => words::unit(data, answer),
+        Asked::Entry => parsers::entry(data, answer),
+        Asked::Answer => parsers::answer(data, answer),
     }
 }
 
-fn ask(asked: Asked, digits: &[u8], bytes: &mut [u8]) {
+fn ask(asked: Asked, digits: &[u8], bytes: &mut [u8], answer: &mut [u8]) -> usize {
     let n = digits.len() / 2;
     if !decode(digits, bytes) {
-        say(b"?");
-        return;
+        return say(b"?", answer, 0);
     }
-    by_asked(asked, up_to(bytes, n));
+    by_asked(asked, up_to(bytes, n), answer)
 }
 
-fn ask_line(line: &[u8], bytes: &mut [u8]) {
+fn ask_line(line: &[u8], bytes: &mut [u8], answer: &mut [u8]) -> usize {
     if field::byte_at(line, 1) == b' ' {
         let letter = field::byte_at(line, 0);
-        ask(Asked::Letter(letter), from_place(line, 2), bytes);
-        return;
+        return ask(Asked::Letter(letter), from_place(line, 2), bytes, answer);
     }
     if starts_with(line, b"channel ") {
-        ask(Asked::Channel, from_place(line, 8), bytes);
-        return;
+        return ask(Asked::Channel, from_place(line, 8), bytes, answer);
     }
     if starts_with(line, b"unit ") {
-        ask(Asked::Unit, from_place(line, 5), bytes);
-        return;
+        return ask(Asked::Unit, from_place(line, 5), bytes, answer);
     }
-    say(b"?");
+    if starts_with(line, b"entry ") {
+        return ask(Asked::Entry, from_place(line, 6), bytes, answer);
+    }
+    if starts_with(line, b"answer ") {
+        return ask(Asked::Answer, from_place(line, 7), bytes, answer);
+    }
+    say(b"?", answer, 0)
+}
+
+// Writes an answer's line, in one call.
+fn write_line(answer: &mut [u8], end: usize) {
+    let n = say_byte(b'\n', answer, end);
+    io::write_all(STDOUT_FILENO, up_to(answer, n));
 }
 
 // Takes one byte of the input: a newline has the line before it answered. Hands back how much of a line there is then.
 fn take(c: u8, line: &mut [u8], filled: usize, bytes: &mut [u8]) -> usize {
     if c != b'\n' {
-        return put(line, filled, c);
+        return say_byte(c, line, filled);
     }
-    ask_line(up_to(line, filled), bytes);
-    say(b"\n");
+    let mut answer = [0u8; ANSWER];
+    let end = ask_line(up_to(line, filled), bytes, &mut answer);
+    write_line(&mut answer, end);
     0
 }
 
@@ -172,12 +166,12 @@ fn read_some(line: &mut [u8], filled: usize, bytes: &mut [u8]) -> Step {
     let mut chunk = io::large_buffer();
     let got = libc::read(STDIN_FILENO, &mut chunk);
     if got < 0 {
-        say(b"?\n");
+        io::write_all(STDOUT_FILENO, b"?\n");
         return Step::Done;
     }
     if got == 0 {
         if 0 < filled {
-            say(b"?\n");
+            io::write_all(STDOUT_FILENO, b"?\n");
         }
         return Step::Done;
     }

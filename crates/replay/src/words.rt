@@ -7,40 +7,39 @@ use connection::NewChannel;
 use connection::NewUnit;
 use field::byte_at;
 
-fn say_name(c: Channel) {
+fn say_name(c: Channel, line: &mut [u8]) -> usize {
     match c {
-        Channel::Primary => say(b"Primary "),
-        Channel::Numbered(_) => say(b"Numbered "),
-        Channel::System => say(b"System "),
-        Channel::Current => say(b"Current "),
+        Channel::Primary => say(b"Primary ", line, 0),
+        Channel::Numbered(_) => say(b"Numbered ", line, 0),
+        Channel::System => say(b"System ", line, 0),
+        Channel::Current => say(b"Current ", line, 0),
     }
 }
 
-pub(crate) fn channel(data: &[u8]) {
+pub(crate) fn channel(data: &[u8], line: &mut [u8]) -> usize {
     if data.len() != 1 {
-        say(b"?");
-        return;
+        return say(b"?", line, 0);
     }
     match Channel::new(byte_at(data, 0)) {
         NewChannel::Valid(c) => {
-            say_name(c);
-            say_hex(c.value());
+            let next = say_name(c, line);
+            say_hex(c.value(), line, next)
         }
-        NewChannel::Invalid(_) => say(b"none"),
+        NewChannel::Invalid(_) => say(b"none", line, 0),
     }
 }
 
 // The unit by the low bits, then the unit where higher bits are turned away.
-pub(crate) fn unit(data: &[u8]) {
+pub(crate) fn unit(data: &[u8], line: &mut [u8]) -> usize {
     if data.len() != 1 {
-        say(b"?");
-        return;
+        return say(b"?", line, 0);
     }
     let value = byte_at(data, 0);
-    say_hex(LogicalUnit::from_low_bits(value).value());
-    say(b" ");
+    let low = LogicalUnit::from_low_bits(value);
+    let next = say_hex(low.value(), line, 0);
+    let next = say(b" ", line, next);
     match LogicalUnit::new(value) {
-        NewUnit::Valid(u) => say_hex(u.value()),
-        NewUnit::Invalid => say(b"none"),
+        NewUnit::Valid(u) => say_hex(u.value(), line, next),
+        NewUnit::Invalid => say(b"none", line, next),
     }
 }

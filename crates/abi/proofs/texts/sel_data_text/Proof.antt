@@ -1,13 +1,13 @@
 -- `sel_data_text` meets its contract. Assumes nothing.
 use mathlib.Core.Path.{ap}
 use Rattle.event_data.specs.DataText.{dataText}
-use Rattle.abi.proofs.Laws.{says-text}
+use Rattle.abi.proofs.Laws.{gives-text}
 use borrow.Author.Needs.{needs}
 use Rattle.abi.proofs.texts.sel_data_text.Statement.{statement}
 use Rattle.abi.proofs.texts.sel_data_text.Tie as tie
 
 returns : tie.Need-returns
-returns c = says-text (ap dataText (c .before .before .before .before .before .before .parse .ensures)) (c .answer-of .ensures) (c .before .of-written .ensures) (c .before .before .before .before .write-text .ensures)
+returns c = gives-text (ap dataText (c .before .before .before .before .before .parse .ensures)) (c .of-written .ensures) (c .before .before .before .write-text .ensures)
 
 pub sel-data-text-spec : {M : Type 1} → statement M
 sel-data-text-spec =

@@ -5,7 +5,7 @@ use Rattle.abi.proofs.texts.sel_texts.Statement.{statement}
 use Rattle.abi.proofs.texts.sel_texts.Tie as tie
 
 returns : tie.Need-returns
-returns c = fills (c .answer-of .ensures) (c .before .of-written .ensures) (c .before .before .before .before .before .before .before .before .fill .ensures)
+returns c = fills (c .of-written .ensures) (c .before .before .before .before .before .before .before .fill-texts .ensures)
 
 pub sel-texts-spec : {M : Type 1} → statement M
 sel-texts-spec =

@@ -2,13 +2,13 @@
 use mathlib.Core.Path.{ap}
 use Rattle.storage.specs.Time.{timeText}
 use Rattle.storage.specs.declared.Timestamp.{Timestamp}
-use Rattle.abi.proofs.Laws.{says-text}
+use Rattle.abi.proofs.Laws.{gives-text}
 use borrow.Author.Needs.{needs}
 use Rattle.abi.proofs.texts.sel_time_text.Statement.{statement}
 use Rattle.abi.proofs.texts.sel_time_text.Tie as tie
 
 returns : tie.Need-returns
-returns c = says-text (ap (λ (t : Timestamp). timeText (t .0)) (c .before .before .before .before .before .before .from-u32 .ensures)) (c .answer-of .ensures) (c .before .of-written .ensures) (c .before .before .before .before .write-text .ensures)
+returns c = gives-text (ap (λ (t : Timestamp). timeText (t .0)) (c .before .before .before .before .before .from-u32 .ensures)) (c .of-written .ensures) (c .before .before .before .write-text .ensures)
 
 pub sel-time-text-spec : {M : Type 1} → statement M
 sel-time-text-spec =

@@ -7,15 +7,14 @@ use lib.ListN.{drop, take}
 use lib.Seq.{drop-drop, take-add}
 use Rattle.field.specs.Bits.{bytesAt, le16At}
 use Rattle.connection.specs.Channel.{validChannel}
-use Rattle.capture.specs.SlotAnswer.{answerIn}
-use Rattle.capture.specs.Slots.{askedOf}
+use Rattle.capture.specs.Slots.{answerIn, askedOf}
 use Rattle.capture.proofs.Asking.{asking-holds}
 use Rattle.capture.proofs.Demand.{demand}
 use Rattle.capture.proofs.Listing.{listing, reads}
-use Rattle.capture.proofs.SlotAnswer.{slot-answer}
 use Rattle.capture.proofs.Slots.{byte-in}
 use Rattle.capture.proofs.Unseen.{later-slots-do-not-matter, records-do-not-matter}
 use Rattle.claims.specs.Demand3.{Demand3, Slot}
+use Rattle.claims.proofs.SlotAnswer.{slot-answer}
 
 module _ (s : List ℕ) (i : ℕ) where
   asked : askedOf s i ≡ le16At (bytesAt s (20 * i) 20) 0

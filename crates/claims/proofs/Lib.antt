@@ -6,4 +6,5 @@ pub mod Fields
 pub mod Header
 mod Lines
 pub mod Requests
+pub mod SlotAnswer
 pub mod Texts

@@ -8,12 +8,12 @@ use Rattle.connection.specs.Channel.{validChannel}
 use Rattle.capture.specs.Asking.{Asking}
 use Rattle.capture.specs.Demand.{Demand}
 use Rattle.capture.specs.Listing.{Listing, Reads}
-use Rattle.capture.specs.SlotAnswer.{SlotAnswer, answerIn}
-use Rattle.capture.specs.Slots.{askedOf, count}
+use Rattle.capture.specs.Slots.{answerIn, askedOf, count}
 use Rattle.capture.specs.Unseen.{LaterSlotsDoNotMatter, RecordsDoNotMatter}
 use Rattle.capture.specs.Walk.{listAfter, walkOf}
 use Rattle.capture.specs.Walked.{Walked}
 use Rattle.capture.specs.declared.Verdict.{Verdict}
+use Rattle.claims.specs.SlotAnswer.{SlotAnswer}
 
 -- a slot of a capture: twenty bytes, of which the first two are the asked id, and the others its answer
 pub record Slot (s : List ℕ) (i : ℕ) : Type 0 where

@@ -7,4 +7,5 @@ pub mod Fields
 pub mod Header
 pub mod Promises
 pub mod Requests
+pub mod SlotAnswer
 pub mod Texts

@@ -1,7 +1,8 @@
 """The questions of the program `replay`, in the order of crates/replay/stdin.
 
-Their answers, crates/replay/stdout, come from three places: from model.py for lines that begin with p or w, which the Rust
-does not have; from panics.txt where the Rust panics; from the Rust for every other line. That a line is no question, `?`, is
+Their answers, crates/replay/stdout, come from four places: from model.py for lines that begin with p or w, which the Rust
+does not have; from dump.py for the words `entry` and `answer`, whose accepted answers are lines of `seldump`, out of the Rust's own
+answers; from panics.txt where the Rust panics; from the Rust for every other line. That a line is no question, `?`, is
 said by the program that asks the Rust (src/main.rs), or by model.py.
 """
 
@@ -272,6 +273,17 @@ def long_walks():
     yield walk(3001, 3001, slots(line_of(*range(3001), LAST)))
 
 
+PARSERS = {"e": "entry", "g": "answer"}
+
+
+def parsed(asked):
+    """Every question of the kinds e and g again, by the word for its parser."""
+    for line in asked:
+        name = PARSERS.get(line[:1])
+        if name and line[1:2] == " ":
+            yield name + line[1:]
+
+
 LETTERS = "eygpiarcdvxtnqw"
 FIXED = {"d": 3, "v": 3, "x": 3, "t": 4, "n": 2, "channel": 1, "unit": 1}
 
@@ -280,7 +292,7 @@ def malformed():
     """What answers `?`, as far as it stands in one line."""
     yield ""
     yield from (chr(c) for c in (0x00, 0x09, 0x0D, 0x20, 0x7F, 0xE9))
-    for kind in (*LETTERS, "channel", "unit"):
+    for kind in (*LETTERS, "channel", "unit", *PARSERS.values()):
         yield from (kind, kind + "00", kind.upper() + " 00", kind + kind + " 00", f" {kind} 00", f"{kind}  00", f"{kind}\t00", f"{kind}:00")
         data = bytes([0xAB]) * FIXED.get(kind, 18)
         good = question(kind, data)
@@ -291,7 +303,7 @@ def malformed():
     for c in range(0x21, 0x7F):
         if chr(c) not in LETTERS:
             yield chr(c) + " 00"
-    yield from ("chan 00", "channels 00", "units 00", "none", "?")
+    yield from ("chan 00", "channels 00", "units 00", "entries 00", "answers 00", "none", "?")
 
 
 def longest():
@@ -300,11 +312,13 @@ def longest():
     yield question("a", mixed(60_101))
 
 
-ASKED = [
+LETTERED = [
     *channels_and_units(), *time_texts(), *allocations(), *event_data(), *event_texts(),
     *lengths(), *eight_answers(), *fields(), *oem_records(), *damages(), *texts_of_records(),
     *record_ids(), *requests(), *small_walks(), *walk_edges(), *long_walks(), *malformed(), *longest(),
 ]
+
+ASKED = [*LETTERED, *parsed(LETTERED)]
 
 # The last line, which no newline closes.
 UNCLOSED = "t E8030000"

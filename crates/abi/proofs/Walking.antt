@@ -17,8 +17,9 @@ use Rattle.capture.specs.Walked.{Walked}
 use Rattle.capture.specs.declared.Found.{Found}
 use Rattle.capture.specs.declared.Verdict.{Verdict}
 use Rattle.capture.proofs.Answer.{Answer, bad, short, goes, answer}
-use Rattle.capture.proofs.Listing.{counted, few}
-use Rattle.capture.proofs.Ran.{Ran, spends, rounds, ends, lacks, ran}
+use Rattle.capture.proofs.Listing.{few}
+use Rattle.capture.proofs.Ran.{counted}
+use Rattle.capture.proofs.Tested.{one-of-four}
 use Rattle.abi.specs.Walks.{Walks, foundAnswer, walkAnswer}
 use Rattle.abi.specs.declared.walk.SelWalk.{SelWalk}
 
@@ -37,11 +38,8 @@ countOf Verdict.BadCapture = 0
 
 module _ (s : List ℕ) (b : ℕ) (old : List ℕ) where
   -- a verdict counts what was read
-  counts : Ran s b → countOf (verdict s b) ≡ readOf (verdict s b)
-  counts (spends id h a v) = ap countOf v ∙ sym (ap readOf v)
-  counts (rounds h a v) = ap countOf v ∙ sym (ap readOf v)
-  counts (ends k h x v) = ap countOf v ∙ sym (ap readOf v)
-  counts (lacks k id h x v) = ap countOf v ∙ sym (ap readOf v)
+  counts : countOf (verdict s b) ≡ readOf (verdict s b)
+  counts = one-of-four (λ v. countOf v ≡ readOf v) (λ r. refl) (λ a r. refl) (λ a r. refl) (λ r. refl) s b
 
   slots-few : (Bad s → ⊥) → count s ≤ 3000
   slots-few fine = by (decLe (length s) 60000)
@@ -57,7 +55,7 @@ module _ (s : List ℕ) (b : ℕ) (old : List ℕ) where
       by (bad why e l) = let z = ap countOf e in omega (arith, z)
       by (short fine r e l) = let z = ap countOf e in omega (arith, z, slots-few fine)
       by (goes fine r e l) =
-          let z = ap countOf e ∙ counts (ran s b) ∙ sym (counted s b (ran s b)) in
+          let z = ap countOf e ∙ counts ∙ sym (counted s b) in
           omega (arith, z, few s b, slots-few fine)
 
   module _ {v : Verdict} {left : List ℕ} (p : Walked s b old v left) where

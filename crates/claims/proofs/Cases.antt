@@ -4,27 +4,27 @@ use mathlib.Core.Path.{_≡_, refl, sym, ap, subst, _∙_}
 use mathlib.Core.Bool.{false}
 use mathlib.Core.List.{List, [], _∷_}
 use native.Mathlib.Omega.{arith}
-use borrow.Author.Tests.{eq-eqb, le-leb, le-ltb, lt-ltb, ne-eqb}
+use borrow.Author.Tests.{eq-eqb, le-ltb, lt-ltb}
 use lib.ListN.{length}
 use Rattle.field.specs.Bits.{byteAt}
 use Rattle.field.specs.Handed.{Handed, handed}
 use Rattle.connection.specs.Channel.{validChannel}
-use Rattle.storage.specs.Alloc.{allocHands}
+use Rattle.storage.specs.Alloc.{parseAlloc}
 use Rattle.event_data.specs.EventData.{byKind, eventDataOf}
 use Rattle.event_data.specs.declared.EventData.{EventData}
 use Rattle.event_data.specs.declared.EventData2Type.{EventData2Type}
 use Rattle.event_data.specs.declared.EventData3Type.{EventData3Type}
 use Rattle.ids.specs.Ids.{recordId}
-use Rattle.sel.specs.Numbers.{entryHands, systemHands}
+use Rattle.sel.specs.Entry.{parseEntry, systemRecord}
 use Rattle.sel_commands.specs.Clear.{parseClear}
 use Rattle.sel_commands.specs.Info.{infoAt, parseInfo}
-use Rattle.sel_commands.specs.Reserve.{reserveHands}
+use Rattle.sel_commands.specs.Reserve.{parseReserve}
 use Rattle.sel_commands.specs.declared.clear.ClearAnswer.{ClearAnswer}
 use Rattle.sel_commands.specs.declared.clear.ErasureProgress.{ErasureProgress}
 use Rattle.sel_commands.specs.declared.get_info.InfoAnswer.{InfoAnswer}
 use Rattle.capture.specs.Length.{badLength}
 use Rattle.capture.specs.Slots.{askedOf, count, firstFrom, firstSlot, nextOf}
-use Rattle.capture.specs.Walk.{chain, foundAt, judge, listed, lookup, numbers, onward, past, see, tested, verdict, walkOf}
+use Rattle.capture.specs.Walk.{chain, foundAt, judge, listed, numbers, onward, tested, verdict, walkOf}
 use Rattle.capture.specs.Walked.{Walked}
 use Rattle.capture.specs.declared.Found.{Found}
 use Rattle.capture.specs.declared.Verdict.{Verdict}
@@ -68,7 +68,7 @@ module _ (s old : List ℕ) (t : OneSlot s old) where
   first-one = rw (count-1, t .asked0)
 
 pub cases : Cases
-unfolding entryHands systemHands validChannel parseInfo infoAt allocHands reserveHands parseClear eventDataOf byKind badLength verdict judge chain lookup onward past listed foundAt see numbers
+unfolding parseEntry systemRecord validChannel parseInfo infoAt parseAlloc parseReserve parseClear eventDataOf byKind badLength verdict judge chain onward listed foundAt numbers
 cases =
     record {
       entry15 = λ s r p l. p .numbered ∙ rw (lt-ltb (length s) 16 (omega arith));
@@ -78,8 +78,8 @@ cases =
       alloc8 = λ s r p l. p .numbered ∙ rw (lt-ltb (length s) 9 (omega arith));
       alloc9 = λ s r p l. ap (λ (h : Handed). h .number) (p .numbered) ∙ rw (le-ltb (length s) 9 (omega arith));
       reserve0000 = λ rest r p. p .numbered ∙ rw (le-ltb (suc (suc (length rest))) 2 (omega arith));
-      clear11 = λ rest r p. p .decoded ∙ rw (ne-eqb (suc (length rest)) 0 (λ e. omega arith));
-      clear02 = λ rest r p. p .decoded ∙ rw (ne-eqb (suc (length rest)) 0 (λ e. omega arith));
+      clear11 = λ rest r p. p .decoded ∙ rw (le-ltb (suc (length rest)) 1 (omega arith));
+      clear02 = λ rest r p. p .decoded ∙ rw (le-ltb (suc (length rest)) 1 (omega arith));
       dataC0FFFF = λ d e. (ap (λ (x : EventData). x .«data2_type») e, ap (λ (x : EventData). x .«data3_type») e);
       none1 = λ old left v w. w .answered ∙ walks [] 1 (length old) refl (omega arith) ∙ simp first-none;
       none0 = λ old left v w. w .answered ∙ walks [] 0 (length old) refl (omega arith);

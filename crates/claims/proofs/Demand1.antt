@@ -52,11 +52,8 @@ use Rattle.claims.specs.Demand1.{Demand1, OneOf, Valid}
 use Rattle.claims.specs.Promises.{Promised}
 use Rattle.claims.proofs.Lines.{bad-carries, bad-line, good-lines, too-many}
 
-abbrev RowsOf : AnswerKind → List ℕ → Handed → Type 0
-RowsOf kind s h = Rows h (Accepted validChannel kind s) (NotEnough kind s) (Unknown kind s) (Invalid validChannel kind s) (recordOf kind s)
-
-parsed : (kind : AnswerKind) (s : List ℕ) (r : Answer kind) → Promised kind r s → RowsOf kind s (numberOf kind r)
-parsed kind s r p = subst (λ (h : Handed). RowsOf kind s h) (sym (p .numbered)) (answer-rows validChannel kind s .rows)
+parsed : (kind : AnswerKind) (s : List ℕ) (r : Answer kind) → Promised kind r s → Rows (numberOf kind r) (Row validChannel kind s)
+parsed kind s r p = rows-are (sym (p .numbered)) (answer-rows validChannel kind s .rows)
 
 -- the valid channels
 channels : (n : ℕ) → (validChannel n ≡ true) ↔ Valid n
@@ -74,61 +71,37 @@ channels n = (λ v. by (decLe n 0xB) (ℕ-discrete n 0xE) (ℕ-discrete n 0xF) v
     back (inr (inl h)) = simp h
     back (inr (inr h)) = simp h
 
--- one of the rows holds
-data Record (s : List ℕ) : Type 0 where
-  good : GoodRecord validChannel s → Record s
-  unknown : UnknownType s → Record s
-  invalid : InvalidChannel validChannel s → Record s
+-- each row has one of the numbers 0 to 3
+record-one : (s : List ℕ) (h : Handed) → RecordRow validChannel s h → OneOf h
+record-one s _ (Record.accepted g) = inl refl
+record-one s _ (Record.unknown u) = inr (inr (inl refl))
+record-one s _ (Record.invalid i) = inr (inr (inr refl))
 
-record-is : (s : List ℕ) → Record s
-record-is s = by (ℕ-discrete (typeAt s) 0x02) (validChannel (channelIn s)) refl (decLe 0xC0 (typeAt s)) (decLe (typeAt s) 0xFF)
-  where
-    by : Dec (typeAt s ≡ 0x02) → (b : Bool) → validChannel (channelIn s) ≡ b → Dec (0xC0 ≤ typeAt s) → Dec (typeAt s ≤ 0xFF) → Record s
-    by (yes e) true v m n = good (inl (e, v))
-    by (yes e) false v m n = invalid (e, v)
-    by (no e) b v (yes m) (yes n) = good (inr (m, n))
-    by (no e) b v (no m) n = unknown (e, λ p. m (p .0))
-    by (no e) b v (yes m) (no n) = unknown (e, λ p. n (p .1))
+taken-one : (h : Handed) → Taken h → OneOf h
+taken-one _ accepted = inl refl
 
-one-row : (kind : AnswerKind) (s : List ℕ) (h : Handed) → RowsOf kind s h → OneOf h
-one-row AnswerKind.Entry s n r = by (decLe 16 (length s)) (record-is s)
+reserve-one : (s : List ℕ) (h : Handed) → ReserveRow s h → OneOf h
+reserve-one s _ (Reserve.accepted z) = inl refl
+reserve-one s _ (Reserve.none z) = inr (inl refl)
+
+long-one : {n : ℕ} {s : List ℕ} {R : Handed → Type 0} → ((h : Handed) → R h → OneOf h) → (h : Handed) → LongEnough n s R h → OneOf h
+long-one rest _ (tooShort l) = inr (inl refl)
+long-one rest h (long l r) = rest h r
+
+one-row : (kind : AnswerKind) (s : List ℕ) (h : Handed) → Row validChannel kind s h → OneOf h
+one-row AnswerKind.Entry s = long-one (record-one s)
+one-row AnswerKind.GetEntry s = long-one (record-one (drop 2 s))
+one-row AnswerKind.Info s = info-one
   where
-    by : Dec (16 ≤ length s) → Record s → OneOf n
-    by (no h) c = inr (inl (r .one .1 (omega arith)))
-    by (yes h) (good g) = inl (r .zero .1 (h, g))
-    by (yes h) (unknown u) = inr (inr (inl (r .two .1 (h, u))))
-    by (yes h) (invalid i) = inr (inr (inr (r .three .1 (h, i))))
-one-row AnswerKind.GetEntry s n r = by (decLe 18 (length s)) (record-is (drop 2 s))
-  where
-    by : Dec (18 ≤ length s) → Record (drop 2 s) → OneOf n
-    by (no h) c = inr (inl (r .one .1 (omega arith)))
-    by (yes h) (good g) = inl (r .zero .1 (h, g))
-    by (yes h) (unknown u) = inr (inr (inl (r .two .1 (h, u))))
-    by (yes h) (invalid i) = inr (inr (inr (r .three .1 (h, i))))
-one-row AnswerKind.Info s n r = by (ℕ-discrete (length s) 14)
-  where
-    by : Dec (length s ≡ 14) → OneOf n
-    by (yes h) = inl (r .zero .1 h)
-    by (no h) = inr (inl (r .one .1 h))
-one-row AnswerKind.Allocation s n r = by (decLe 9 (length s))
-  where
-    by : Dec (9 ≤ length s) → OneOf n
-    by (yes h) = inl (r .zero .1 h)
-    by (no h) = inr (inl (r .one .1 (omega arith)))
-one-row AnswerKind.Reserve s n r = by (decLe 2 (length s)) (ℕ-discrete (le16At s 0) 0)
-  where
-    by : Dec (2 ≤ length s) → Dec (le16At s 0 ≡ 0) → OneOf n
-    by (no h) d = inr (inl (r .one .1 (inl (omega arith))))
-    by (yes h) (yes e) = inr (inl (r .one .1 (inr e)))
-    by (yes h) (no e) = inl (r .zero .1 (h, e))
-one-row AnswerKind.Clear s n r = by (ℕ-discrete (length s) 0)
-  where
-    by : Dec (length s ≡ 0) → OneOf n
-    by (yes h) = inr (inl (r .one .1 h))
-    by (no h) = inl (r .zero .1 (omega arith))
+    info-one : (h : Handed) → InfoRow s h → OneOf h
+    info-one _ (Info.accepted l) = inl refl
+    info-one _ (Info.other l) = inr (inl refl)
+one-row AnswerKind.Allocation s = long-one taken-one
+one-row AnswerKind.Reserve s = long-one (reserve-one s)
+one-row AnswerKind.Clear s = long-one taken-one
 
 decided-by : (kind : AnswerKind) (s : List ℕ) (r : Answer kind) → Promised kind r s → OneOf (numberOf kind r)
-decided-by kind s r p = one-row kind s (numberOf kind r) (parsed kind s r p)
+decided-by kind s r p = one-row kind s (numberOf kind r) (parsed kind s r p .exactly (numberOf kind r) .0 refl)
 
 -- what a question comes to: flat bytes, a refusal that is not for want of room, or none
 data Shape (q : Flat) : Type 0 where

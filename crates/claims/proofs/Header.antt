@@ -6,14 +6,14 @@ use lib.ListN.{length}
 use Rattle.event_offset.specs.Fills.{fillAnswer}
 use Rattle.capture.specs.Walk.{walkOf}
 use Rattle.capture.proofs.Refusals.{refusals}
+use Rattle.flat_form.specs.declared.SelAnswer.{SelAnswer}
+use Rattle.flat_form.proofs.Untouched.{one-answer, untouched-else}
+use Rattle.flat.proofs.Sizes.{sizes}
 use Rattle.abi.specs.Filled.{Filled}
 use Rattle.abi.specs.Walks.{Walks}
-use Rattle.abi.specs.declared.SelAnswer.{SelAnswer}
 use Rattle.abi.specs.declared.walk.SelWalk.{SelWalk}
 use Rattle.abi.proofs.FromStore.{from-store, number-is}
 use Rattle.abi.proofs.LengthSays.{length-says, slots-say, walk-number}
-use Rattle.abi.proofs.Sizes.{sizes}
-use Rattle.abi.proofs.Untouched.{one-answer, untouched}
 use Rattle.claims.specs.Header.{Header}
 
 unfilled : (a b c : List ℕ) (f : SelAnswer) (store starts lengths : List ℕ) → Filled a b c f store starts lengths → (f .number ≡ 0 → ⊥)
@@ -28,7 +28,7 @@ unlisted s b old left r w z =
 pub header : Header
 header =
     record {
-      untouched = untouched;
+      untouched = untouched-else;
       one = one-answer;
       unfilled = unfilled;
       unlisted = unlisted;

@@ -72,15 +72,15 @@ within (l ∷ ls) = by (fits lineForm l) refl (within ls)
 
 module _ (input : List ℕ) where
   hands-many : 3000 < lead input → inputHands input ≡ handed 5 []
-  unfolding inputHands
+  unfolding judgeInput
   hands-many h = rw (lt-ltb 3000 (lead input) h)
 
   hands-bad : lead input ≤ 3000 → lead input < length (lines input) → inputHands input ≡ handed 6 (suc (lead input) ∷ [])
-  unfolding inputHands
+  unfolding judgeInput
   hands-bad h m = rw (le-ltb 3000 (lead input) h, lt-ltb (lead input) (length (lines input)) m)
 
   hands-good : lead input ≤ 3000 → length (lines input) ≤ lead input → inputHands input ≡ handed 0 (length (lines input) ∷ [])
-  unfolding inputHands
+  unfolding judgeInput
   hands-good h m = rw (le-ltb 3000 (lead input) h, le-ltb (lead input) (length (lines input)) m)
 
   -- an input is of one of three kinds

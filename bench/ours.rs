@@ -23,8 +23,8 @@ pub struct Found {
 #[repr(C)]
 pub struct Walk {
     number: u32,
-    verdict: u32,
-    ask: u32,
+    verdict: u16,
+    ask: u16,
     read: u32,
     needed: u32,
 }

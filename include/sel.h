@@ -69,7 +69,7 @@ SelAnswer sel_allocation(const uint8_t *data, size_t data_length, uint8_t *out, 
 SelAnswer sel_decode(uint8_t kind, const uint8_t *data, size_t data_length, uint8_t *out, size_t out_length);
 
 /* What the length of an answer alone decides, before there is a byte of it: 1 exactly if sel_decode answers 1 for every answer of that length, which is
- * under 16 for e, under 18 for g, any but 14 for i, under 9 for a, under 2 for r, and 0 for c; else 0. 255 for any other letter. */
+ * under 16 for e, under 18 for g, any but 14 for i, under 9 for a, under 2 for r, under 1 for c; else 0. 255 for any other letter. */
 uint32_t sel_length(uint8_t kind, size_t len);
 
 /* How many bytes of an answer count: 16 for e, 18 for g, 14 for i, 9 for a, 2 for r, 1 for c; 0 for any other letter. Where sel_length says 0, the
@@ -150,8 +150,8 @@ SelFound sel_find(const uint8_t *slots, size_t slots_length, uint16_t id);
  * needed:  the places that the list must have, where the number is 4; else 0. */
 typedef struct SelWalk {
     uint32_t number;
-    uint32_t verdict;
-    uint32_t ask;
+    uint16_t verdict;
+    uint16_t ask;
     uint32_t read;
     uint32_t needed;
 } SelWalk;

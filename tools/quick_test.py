@@ -96,17 +96,18 @@ PLANTED = [
 ABI, HEADER, RUST = 'crates/abi/src/lib.rt', 'include/sel.h', 'rust/ipmi-sel/src/'
 FFI = RUST + 'ffi.rs'
 ROOMS = {
-    'lent_texts/specs/Fills': ['storeRoom = 7'],
+    'event_offset/specs/Fills': ['storeRoom = 7'],
     'event_offset/specs/Places': ['places = 6'],
     'event_offset/specs/Event': ['eventRoom = 5'],
     'event_data/specs/DataText': ['dataRoom = 4'],
     'storage/specs/Time': ['timeRoom = 3'],
-    'abi/specs/Sizes': ['flatRoom = 2', 'requestRoom = 1'],
+    'flat/specs/Sizes': ['flatRoom = 2', 'requestRoom = 1'],
+    'field/specs/Lengths': ['entryBytes = 16', 'getEntryBytes = 18', 'infoBytes = 14', 'allocationBytes = 9', 'reserveBytes = 2', 'clearBytes = 1'],
 }
 EXPORTS = {
     **GOOD,
     **{f'crates/{file}.antt': '\n\n'.join(f'abbrev pub {x.split()[0]} : ℕ\n{x}' for x in lines) + '\n' for file, lines in ROOMS.items()},
-    'crates.txt': 'a:\nabi:\nlent_texts:\nevent_offset:\nevent_data:\nstorage:\n',
+    'crates.txt': 'a:\nabi:\nevent_offset:\nevent_data:\nstorage:\nflat:\nfield:\n',
     PAGE: STATED + STATED.replace('## a', '## abi').replace('`clear`', '`sel_text`, `sel_length`'),
     ABI: '''// Answers.
 #[repr(C)]
@@ -136,7 +137,10 @@ pub extern "C" fn sel_length(kind: u8, len: usize) -> u32
     0
 }
 ''',
-    HEADER: '''/* Answers. */
+    HEADER: '''/* A record of the log, 16 bytes or more: 1 under 16 bytes; 2 with the type. 1 under 18 bytes; then as sel_entry.
+ * 1 under 9 bytes; then 4. 1 unless it has exactly 14 bytes. 1 under 2 bytes, or where the reservation is 0.
+ * Refused: under 16 for e, under 18 for g, any but 14 for i, under 9 for a, under 2 for r,
+ * under 1 for c. Counted: 16 for e, 18 for g, 14 for i, 9 for a, 2 for r, 1 for c; else 0. */
 #ifndef SEL_H
 #define SEL_H
 
@@ -242,6 +246,10 @@ CHANGED = [
     (ABI, '#[no_mangle]\npub extern "C" fn sel_length', '#[no_mangle]\npub fn sel_length', 'crates/abi/src cannot be read: 1 functions'),
     (ABI, 'len: usize', 'len: u64', 'cannot be read: parameter len:u64'),
     (ABI, 'len: usize) -> u32', 'len: usize) -> u8', 'include/sel.h: uint32_t sel_length('),
+    (ABI, '    pub value: u32,\n', '    pub value: u32,\n    pub more: u32,\n', 'SelAnswer has over 16 bytes'),
+    ('crates/field/specs/Lengths.antt', 'infoBytes = 14', 'infoBytes = 15', 'include/sel.h does not say: 1 unless it has exactly 15 bytes'),
+    (HEADER, '2 for r,', '3 for r,', 'include/sel.h does not say: under 16 for e'),
+    (HEADER, 'under 18 bytes', 'under 17 bytes', 'include/sel.h does not say: 1 under 18 bytes'),
 ]
 
 

@@ -2,17 +2,33 @@
 import re
 
 ABI, HEADER, RUST = 'crates/abi/src', 'include/sel.h', 'rust/ipmi-sel/src'
+# The answer of most functions stands where the flat form is.
+STRUCTS = 'crates/flat_form/src'
 C = {'u8': 'uint8_t', 'u16': 'uint16_t', 'u32': 'uint32_t', 'usize': 'size_t'}
 # The header's macro; file and name of the constant in Rust; file and name of the definition.
 SIZES = [
-    ('SEL_STORE', 'text.rs', 'STORE', 'crates/lent_texts/specs/Fills.antt', 'storeRoom'),
+    ('SEL_STORE', 'text.rs', 'STORE', 'crates/event_offset/specs/Fills.antt', 'storeRoom'),
     ('SEL_PLACES', 'text.rs', 'PLACES', 'crates/event_offset/specs/Places.antt', 'places'),
     ('SEL_EVENT_TEXT', 'text.rs', 'EVENT_ROOM', 'crates/event_offset/specs/Event.antt', 'eventRoom'),
     ('SEL_DATA_TEXT', 'text.rs', 'DATA_ROOM', 'crates/event_data/specs/DataText.antt', 'dataRoom'),
     ('SEL_TIME_TEXT', 'text.rs', 'TIME_ROOM', 'crates/storage/specs/Time.antt', 'timeRoom'),
-    ('SEL_FLAT', 'flat.rs', 'MOST', 'crates/abi/specs/Sizes.antt', 'flatRoom'),
-    ('SEL_REQUEST', 'request.rs', 'MOST', 'crates/abi/specs/Sizes.antt', 'requestRoom'),
+    ('SEL_FLAT', 'flat.rs', 'MOST', 'crates/flat/specs/Sizes.antt', 'flatRoom'),
+    ('SEL_REQUEST', 'request.rs', 'MOST', 'crates/flat/specs/Sizes.antt', 'requestRoom'),
 ]
+# The bytes that each letter's answer needs: what the header says of them, with the names of the definitions.
+LENGTHS = 'crates/field/specs/Lengths.antt'
+SAID = [
+    'under {entryBytes} for e, under {getEntryBytes} for g, any but {infoBytes} for i, under {allocationBytes} for a, under {reserveBytes} for r, under {clearBytes} for c',
+    '{entryBytes} for e, {getEntryBytes} for g, {infoBytes} for i, {allocationBytes} for a, {reserveBytes} for r, {clearBytes} for c;',
+    'A record of the log, {entryBytes} bytes or more',
+    '1 under {entryBytes} bytes; 2 with the type',
+    '1 under {getEntryBytes} bytes; then as sel_entry',
+    '1 under {allocationBytes} bytes; then 4',
+    '1 unless it has exactly {infoBytes} bytes',
+    '1 under {reserveBytes} bytes, or where the reservation is 0',
+]
+WIDTH = {'u8': 1, 'u16': 2, 'u32': 4, 'usize': 8}
+MOST_RESULT = 16  # bytes: a result over these is handed back in another way on each machine
 
 
 def bare(path):
@@ -45,15 +61,25 @@ def parameter(text):
             f'{name}.as_{"mut_" if mut else ""}ptr(),{name}.len()')
 
 
+def size(kinds):
+    """The bytes of a struct of these fields, as C lays it out where size_t has eight."""
+    at = 0
+    for kind in kinds:
+        at += -at % WIDTH[kind] + WIDTH[kind]
+    return at + -at % max(WIDTH[kind] for kind in kinds)
+
+
 def exported(root):
     """{name: declaration} in the header, of the structs in ffi.rs and of its functions, and {name: call} in ffi.rs, as they must be."""
-    code = ''.join(tight(bare(f)) for f in sorted((root / ABI).rglob('*.rt')))
+    code = ''.join(tight(bare(f)) for place in (ABI, STRUCTS) for f in sorted((root / place).rglob('*.rt')))
     structs = re.findall(r'#\[repr\(C\)\]pub struct (\w+)\{([^{}]*)\}', code)
     functions = re.findall(r'#\[no_mangle\]pub extern"C"fn (\w+)(?:<[^>]*>)?\(([^()]*)\)->(\w+)', code)
     if not functions or (len(functions), len(structs)) != (code.count('no_mangle'), code.count('repr(')):
         raise ValueError(f'{ABI} cannot be read: {len(functions)} functions and {len(structs)} structs of those marked')
     header, rust_structs, rust, calls = {}, {}, {}, {}
     for name, fields in structs:
+        if size([kind for _, kind in read(r'pub (\w+):(u8|u16|u32|usize)(?:,|$)', fields, ABI)]) > MOST_RESULT:
+            raise ValueError(f'{ABI}: {name} has over {MOST_RESULT} bytes')
         listed = ''.join(f'{C[kind]} {field};' for field, kind in read(r'pub (\w+):(u8|u16|u32|usize)(?:,|$)', fields, ABI))
         header[name] = f'typedef struct {name}{{{listed}}}{name}'
         rust_structs[name.removeprefix('Sel')] = f'#[repr(C)]pub(crate)struct {name.removeprefix("Sel")}{{{fields}}}'
@@ -119,6 +145,15 @@ def size_faults(root):
                 yield f'{HEADER}: a comment says {macro} ({number}), and {name} is {found[0]}'
 
 
+def length_faults(root):
+    """The header's comments name the lengths of the definitions."""
+    lengths = dict(re.findall(r'(?m)^(\w+Bytes) = (\d+)$', (root / LENGTHS).read_text()))
+    header = ' '.join((root / HEADER).read_text().replace('\n *', ' ').split())
+    for said in SAID:
+        if said.format(**lengths) not in header:
+            yield f'{HEADER} does not say: {said.format(**lengths)}'
+
+
 def signature_faults(root):
     if not (root / 'crates/abi').is_dir():
         return
@@ -127,5 +162,6 @@ def signature_faults(root):
         yield from header_faults(root, header)
         yield from ffi_faults(root, structs, functions, calls)
         yield from size_faults(root)
-    except (OSError, ValueError) as fault:  # a file that is not there, or not of the form that is read here
+        yield from length_faults(root)
+    except (OSError, ValueError, KeyError) as fault:  # a file that is not there, or not of the form that is read here
         yield f'signatures: {fault}'

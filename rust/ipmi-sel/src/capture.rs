@@ -40,7 +40,7 @@ pub enum WalkError {
 /// Follows the chain for at most `budget` lookups. One more than there are slots always tells how the chain goes on.
 pub fn walk(slots: &[u8], budget: usize, list: &mut [u16]) -> Result<Walk, WalkError> {
     let answer = ffi::walk(slots, budget, list);
-    let id = RecordId::new_raw(answer.ask as u16);
+    let id = RecordId::new_raw(answer.ask);
     let verdict = match (answer.number, answer.verdict) {
         (0, 0) => Verdict::Ended,
         (0, 1) => Verdict::Missing(id),

@@ -17,8 +17,8 @@ pub(crate) struct Found {
 #[repr(C)]
 pub(crate) struct Walk {
     pub number: u32,
-    pub verdict: u32,
-    pub ask: u32,
+    pub verdict: u16,
+    pub ask: u16,
     pub read: u32,
     pub needed: u32,
 }

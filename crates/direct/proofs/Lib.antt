@@ -1,2 +1,0 @@
-pub mod Behind
-pub mod Same

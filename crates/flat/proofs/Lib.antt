@@ -1,3 +1,5 @@
 mod Cases
 pub mod Counts
+pub mod Laws
 pub mod Rows
+pub mod Sizes

@@ -1,35 +1,38 @@
--- Each kind of answer is decided by its own number. Assumes nothing.
+-- The theorem of specs/Rows.antt, from the rows of the table of numbers. Assumes nothing.
 use Prim.Native.Nat.{ℕ, _≤_, _<_}
 use mathlib.Core.Path.{_≡_, refl, sym, ap, _∙_}
-use mathlib.Core.List.{List, [], _∷_, _++_}
-use mathlib.Core.Logic.{_↔_}
-use native.Mathlib.Omega.{arith}
-use native.Mathlib.Decide.{decLe, ℕ-discrete}
+use mathlib.Core.List.{List, _++_}
+use native.Mathlib.Decide.{ℕ-discrete}
+use native.Mathlib.Nat.{zero-add}
 use borrow.Author.Tests.{eq-eqb, ne-eqb, le-leb, lt-leb}
+use lib.Dec.{leb}
 use lib.ListN.{length, drop}
-use Rattle.field.specs.Handed.{Handed, handed}
+use Rattle.field.specs.Handed.{Handed}
+use Rattle.field.specs.Placed.{placed}
+use Rattle.field.proofs.Choices.{either}
 use Rattle.connection.specs.Channel.{validChannel}
-use Rattle.sel_commands.specs.Rows.{Accepted, handsOf}
-use Rattle.sel_commands.specs.declared.length.AnswerKind.{AnswerKind}
-use Rattle.sel_commands.proofs.Rows.{answer-rows}
-use Rattle.flat_form.specs.Form.{Gives, decided, numberOf, refused, taken}
-use Rattle.flat_form.specs.declared.FlatAnswer.{FlatAnswer}
+use Rattle.answers.specs.Rows.{Row, handsOf}
+use Rattle.answers.specs.declared.AnswerKind.{AnswerKind}
+use Rattle.answers.proofs.Rows.{answer-rows}
+use Rattle.flat_form.specs.Form.{Gives, decided, fromWritten, refusal, refused, said, taken}
+use Rattle.flat_form.specs.declared.SelAnswer.{SelAnswer}
 use Rattle.flat_form.proofs.Laws.{gives-is}
 use Rattle.flat_form.proofs.Untouched.{untouched-else}
-use Rattle.flat_entry.specs.Records.{entryFlat, getEntryFlat}
+use Rattle.flat_record.specs.Records.{entryFlat, getEntryFlat}
 use Rattle.flat_answers.specs.Answers.{allocationFlat, clearFlat, infoFlat, reserveFlat}
-use Rattle.flat.specs.Kinds.{flatOf}
-use Rattle.flat.specs.Rows.{FlatRows, kindOf}
+use Rattle.flat.specs.Kinds.{answerFlat, flatBy, flatOf}
+use Rattle.flat.specs.Rows.{Asked, FlatRows}
+use Rattle.flat.specs.declared.Kind.{Kind}
 
--- what a kind is decided by, and the flat bytes that it has
-decides : (kind : AnswerKind) (s : List ℕ) → (flat : List ℕ) × (flatOf (kindOf kind) s ≡ decided (handsOf validChannel kind s) flat)
+-- each kind of answer is decided by its own number, with flat bytes that the kind has of its bytes
+unfoldable pub decides : (kind : AnswerKind) → (flat : List ℕ → List ℕ) × ((s : List ℕ) → answerFlat kind s ≡ decided (handsOf validChannel kind s) (flat s))
 unfolding entryFlat getEntryFlat infoFlat allocationFlat reserveFlat clearFlat
-decides AnswerKind.Entry s = (_, refl)
-decides AnswerKind.GetEntry s = (_, refl)
-decides AnswerKind.Info s = (_, refl)
-decides AnswerKind.Allocation s = (_, refl)
-decides AnswerKind.Reserve s = (_, refl)
-decides AnswerKind.Clear s = (_, refl)
+decides AnswerKind.Entry = (_, λ s. refl)
+decides AnswerKind.GetEntry = (_, λ s. refl)
+decides AnswerKind.Info = (_, λ s. refl)
+decides AnswerKind.Allocation = (_, λ s. refl)
+decides AnswerKind.Reserve = (_, λ s. refl)
+decides AnswerKind.Clear = (_, λ s. refl)
 
 is-refused : (h : Handed) (flat : List ℕ) → (h .number ≡ 0 → ⊥) → decided h flat ≡ refused h
 unfolding decided
@@ -39,51 +42,53 @@ is-taken : (h : Handed) (flat : List ℕ) → h .number ≡ 0 → decided h flat
 unfolding decided
 is-taken h flat e = rw (eq-eqb (h .number) 0 e)
 
-module _ {out left : List ℕ} {r : FlatAnswer} where
-  -- flat bytes are written where there is room, and else 4 is given
-  fits : (flat : List ℕ) → Gives (taken flat) out r left → length flat ≤ length out
-      → (numberOf r ≡ handed 0 (length flat ∷ [])) × (left ≡ flat ++ drop (length flat) out)
-  fits flat g h = let b = le-leb (length flat) (length out) h in (g .numbered ∙ rw b, g .leaves ∙ rw b)
+-- flat bytes are written where there is room, and else 4 is given: so no other number is
+module _ {out left : List ℕ} {r : SelAnswer} (flat : List ℕ) (g : Gives (taken flat) out r left) where
+  fits : length flat ≤ length out → (r ≡ said 0 0 (length flat)) × (left ≡ flat ++ drop (length flat) out)
+  unfolding placed
+  fits h = let b = le-leb (length flat) (length out) h in (g .answered ∙ rw b, g .leaves ∙ rw (b, zero-add))
 
-  too-long : (flat : List ℕ) → Gives (taken flat) out r left → length out < length flat → numberOf r ≡ handed 4 (length flat ∷ [])
-  too-long flat g h = g .numbered ∙ rw (lt-leb (length flat) (length out) h)
+  too-long : length out < length flat → r ≡ said 4 0 (length flat)
+  too-long h = g .answered ∙ rw (lt-leb (length flat) (length out) h)
 
-  -- so a number of the table is given exactly where the table gives it, but for 0 and 4
-  module _ (h : Handed) (flat : List ℕ) (g : Gives (decided h flat) out r left) (k : ℕ) (not-0 : k ≡ 0 → ⊥) (not-4 : k ≡ 4 → ⊥) where
-    accepted-not : h .number ≡ 0 → numberOf r .number ≡ k → ⊥
-    accepted-not e n = by (decLe (length flat) (length out))
-      where
-        took : Gives (taken flat) out r left
-        took = gives-is (is-taken h flat e) g
+  no-other : (n : ℕ) → (n ≡ 0 → ⊥) → (n ≡ 4 → ⊥) → r .number ≡ n → ⊥
+  no-other n z f =
+      rw (g .answered) (either (λ w. fromWritten w .number ≡ n → ⊥) (leb (length flat) (length out)) _ _ (λ e. z (sym e)) (λ e. f (sym e)))
 
-        by : Dec (length flat ≤ length out) → ⊥
-        by (yes m) = not-0 (sym n ∙ ap (λ (x : Handed). x .number) (fits flat took m .0))
-        by (no m) = not-4 (sym n ∙ ap (λ (x : Handed). x .number) (too-long flat took (omega arith)))
+module _ (letter : ℕ) (kind : AnswerKind) (s out left : List ℕ) (r : SelAnswer) where
+  hands : Handed
+  hands = handsOf validChannel kind s
 
-    pub same : (numberOf r .number ≡ k) ↔ (h .number ≡ k)
-    same = by (ℕ-discrete (h .number) 0)
-      where
-        by : Dec (h .number ≡ 0) → (numberOf r .number ≡ k) ↔ (h .number ≡ k)
-        by (yes e) = (λ n. absurd (accepted-not e n), λ n. absurd (not-0 (sym n ∙ e)))
-        by (no f) =
-            let n = ap (λ (x : Handed). x .number) (gives-is (is-refused h flat f) g .numbered) in
-            (λ p. sym n ∙ p, λ p. n ∙ p)
+  flat : List ℕ
+  flat = decides kind .0 s
 
-module _ (kind : AnswerKind) (s out left : List ℕ) (r : FlatAnswer) where
-  pub flat-rows : FlatRows kind s out left r
+  by-number : Asked letter kind s out left r → flatOf letter s ≡ decided hands flat
+  unfolding hands flat
+  by-number a = ap (λ (k : Kind). flatBy k s) (a .0) ∙ decides kind .1 s
+
+  -- what is given is what the row of any number says
+  by-row : (h : Handed) → Row validChannel kind s h → hands ≡ h
+  unfolding hands
+  by-row h = answer-rows validChannel kind s .rows .exactly h .1
+
+  turned : Asked letter kind s out left r → (h : Handed) → Row validChannel kind s h → (h .number ≡ 0 → ⊥) → r ≡ refusal h
+  turned a h p n = gives-is (by-number a ∙ ap (λ (x : Handed). decided x flat) (by-row h p) ∙ is-refused h flat n) (a .1) .answered
+
+  number : Asked letter kind s out left r → (n : ℕ) → (n ≡ 0 → ⊥) → (n ≡ 4 → ⊥) → r .number ≡ n → Dec (hands .number ≡ 0) → hands .number ≡ n
+  number a n z f e (yes t) = absurd (no-other flat (gives-is (by-number a ∙ is-taken hands flat t) (a .1)) n z f e)
+  number a n z f e (no t) = ap (λ (x : SelAnswer). x .number) (sym (gives-is (by-number a ∙ is-refused hands flat t) (a .1) .answered)) ∙ e
+
+  pub flat-rows : FlatRows letter kind s out left r
+  unfolding hands
   flat-rows =
-      let d = decides kind s in
-      let h = handsOf validChannel kind s in
-      let rows = answer-rows validChannel kind s .rows in
-      let by-table : Gives (flatOf (kindOf kind) s) out r left → (k : ℕ) → (k ≡ 0 → ⊥) → (k ≡ 4 → ⊥) → (numberOf r .number ≡ k) ↔ (h .number ≡ k) =
-      λ g k. same h (d .0) (gives-is (d .1) g) k in
       record {
-        one = λ g. let e = by-table g 1 (λ z. omega arith) (λ z. omega arith) in (λ p. rows .one .0 (e .0 p), λ p. e .1 (rows .one .1 p));
-        two = λ g. let e = by-table g 2 (λ z. omega arith) (λ z. omega arith) in (λ p. rows .two .0 (e .0 p), λ p. e .1 (rows .two .1 p));
-        three = λ g. let e = by-table g 3 (λ z. omega arith) (λ z. omega arith) in (λ p. rows .three .0 (e .0 p), λ p. e .1 (rows .three .1 p));
-        refused = λ g f. gives-is (d .1 ∙ is-refused h (d .0) (λ z. f (rows .zero .0 z))) g .numbered;
-        accepted = λ g a.
-            let e = d .1 ∙ is-taken h (d .0) (rows .zero .1 a) in
-            (d .0, e, fits (d .0) (gives-is e g), too-long (d .0) (gives-is e g));
-        untouched = untouched-else out left r .untouched (flatOf (kindOf kind) s);
+        refused = turned;
+        exactly = λ a n z f. (
+          λ e. (hands, answer-rows validChannel kind s .rows .exactly hands .0 refl, number a n z f e (ℕ-discrete (hands .number) 0)),
+          λ w. ap (λ (x : SelAnswer). x .number) (turned a (w .0) (w .1) (λ q. z (sym (w .2) ∙ q))) ∙ w .2,
+        );
+        accepted = λ a p.
+            let e = by-number a ∙ is-taken hands flat (ap (λ (x : Handed). x .number) (by-row _ p)) in
+            (flat, e, fits flat (gives-is e (a .1)), too-long flat (gives-is e (a .1)));
+        untouched = λ a. untouched-else (flatOf letter s) out left r .untouched (a .1);
       }

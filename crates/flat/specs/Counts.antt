@@ -3,11 +3,13 @@ use Prim.Native.Nat.{ℕ}
 use mathlib.Core.Path.{_≡_}
 use mathlib.Core.List.{List}
 use lib.ListN.{length, take}
-use Rattle.sel_commands.specs.Length.{bytesThatCount, lengthAnswer}
-use Rattle.sel_commands.specs.declared.length.AnswerKind.{AnswerKind}
-use Rattle.sel_commands.specs.declared.length.LengthAnswer.{LengthAnswer}
+use Rattle.answers.specs.Length.{bytesThatCount, lengthAnswer}
+use Rattle.answers.specs.declared.AnswerKind.{AnswerKind}
+use Rattle.answers.specs.declared.LengthAnswer.{LengthAnswer}
 use Rattle.flat.specs.Kinds.{flatOf}
-use Rattle.flat.specs.Rows.{kindOf}
+use Rattle.flat.specs.Letters.{kindOf}
+use Rattle.flat.specs.declared.Kind.{Kind}
 
-pub record FlatCounts (kind : AnswerKind) (s : List ℕ) : Type 0 where
-  pub same : lengthAnswer kind (length s) ≡ LengthAnswer.MayBeRead → flatOf (kindOf kind) (take (bytesThatCount kind) s) ≡ flatOf (kindOf kind) s
+pub record FlatCounts (letter : ℕ) (kind : AnswerKind) (s : List ℕ) : Type 0 where
+  pub same : kindOf letter ≡ Kind.Answer kind → lengthAnswer kind (length s) ≡ LengthAnswer.MayBeRead
+      → flatOf letter (take (bytesThatCount kind) s) ≡ flatOf letter s

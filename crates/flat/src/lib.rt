@@ -1,21 +1,24 @@
-// One function for the flat form of every kind of question: bytes are decoded and written, or refused, and a refusal changes nothing.
-use flat_form::FlatAnswer;
+// The flat form by a letter: bytes are decoded and written, or refused, and a refusal changes nothing.
+mod requests;
+mod texts;
+
+use answers::AnswerKind;
+use flat_form::SelAnswer;
+use flat_form::no_question;
+pub use requests::requested;
+ghost use mathlib.Core.Path.{_≡_};
 ghost use Rattle.flat_form.specs.Form.{Gives};
-ghost use Rattle.flat.specs.Kinds.{flatOf};
+ghost use Rattle.flat.specs.Kinds.{answerFlat, flatOf};
+ghost use Rattle.flat.specs.Letters.{isText, kindOf};
 
 // What the bytes of a question are read as.
 pub enum Kind {
-    // A record.
-    Entry,
+    // An answer to a command, or a record.
+    Answer(AnswerKind),
     // A record, for its event's text.
     EntryText,
-    // The answers to the commands.
-    GetEntry,
+    // An answer to Get SEL Entry, for its record's bytes.
     RecordPart,
-    Info,
-    Allocation,
-    Reserve,
-    Clear,
     // Three bytes of event data.
     EventData,
     EventDataText,
@@ -27,26 +30,77 @@ pub enum Kind {
     RecordId,
     // A command and its fields.
     Request,
+    NoKind,
+}
+
+// The kind that a letter names.
+pub fn kind_of(letter: u8) -> Kind
+    ensures { λ r. ⌜ r ≡ kindOf letter ⌝ }
+{
+    match letter {
+        b'e' => Kind::Answer(AnswerKind::Entry),
+        b'g' => Kind::Answer(AnswerKind::GetEntry),
+        b'i' => Kind::Answer(AnswerKind::Info),
+        b'a' => Kind::Answer(AnswerKind::Allocation),
+        b'r' => Kind::Answer(AnswerKind::Reserve),
+        b'c' => Kind::Answer(AnswerKind::Clear),
+        b'y' => Kind::EntryText,
+        b'p' => Kind::RecordPart,
+        b'd' => Kind::EventData,
+        b'v' => Kind::EventDataText,
+        b'x' => Kind::EventText,
+        b't' => Kind::TimeText,
+        b'n' => Kind::RecordId,
+        b'q' => Kind::Request,
+        _ => Kind::NoKind,
+    }
+}
+
+// Whether the flat bytes of that kind are a text.
+pub fn is_text(kind: Kind) -> bool
+    ensures { λ r. ⌜ r ≡ isText kind ⌝ }
+{
+    match kind {
+        Kind::Answer(_) => false,
+        Kind::EntryText => true,
+        Kind::RecordPart => false,
+        Kind::EventData => false,
+        Kind::EventDataText => true,
+        Kind::EventText => true,
+        Kind::TimeText => true,
+        Kind::RecordId => false,
+        Kind::Request => false,
+        Kind::NoKind => false,
+    }
 }
 
 // Writes the flat bytes of the question to the start of out.
-pub fn flat(kind: Kind, data: &[u8], out: &mut [u8]) -> FlatAnswer
-    ensures { λ r. ⌜ Gives (flatOf kind (now («data» .entry))) (now (out .entry)) r (now (out .exit)) ⌝ }
+pub fn flat(letter: u8, data: &[u8], out: &mut [u8]) -> SelAnswer
+    ensures { λ r. ⌜ Gives (flatOf letter (now («data» .entry))) (now (out .entry)) r (now (out .exit)) ⌝ }
+{
+    match kind_of(letter) {
+        Kind::Answer(kind) => answer(kind, data, out),
+        Kind::EntryText => texts::entry_text(data, out),
+        Kind::RecordPart => flat_record::record_part(data, out),
+        Kind::EventData => flat_record::event_data(data, out),
+        Kind::EventDataText => texts::event_data_text(data, out),
+        Kind::EventText => texts::event_text(data, out),
+        Kind::TimeText => texts::time_text(data, out),
+        Kind::RecordId => flat_answers::record_id(data, out),
+        Kind::Request => requests::request(data, out),
+        Kind::NoKind => no_question(),
+    }
+}
+
+fn answer(kind: AnswerKind, data: &[u8], out: &mut [u8]) -> SelAnswer
+    ensures { λ r. ⌜ Gives (answerFlat kind (now («data» .entry))) (now (out .entry)) r (now (out .exit)) ⌝ }
 {
     match kind {
-        Kind::Entry => flat_entry::entry(data, out),
-        Kind::EntryText => flat_texts::entry_text(data, out),
-        Kind::GetEntry => flat_entry::get_entry(data, out),
-        Kind::RecordPart => flat_entry::record_part(data, out),
-        Kind::Info => flat_answers::info(data, out),
-        Kind::Allocation => flat_answers::allocation(data, out),
-        Kind::Reserve => flat_answers::reserve(data, out),
-        Kind::Clear => flat_answers::clear(data, out),
-        Kind::EventData => flat_event::event_data(data, out),
-        Kind::EventDataText => flat_texts::event_data_text(data, out),
-        Kind::EventText => flat_texts::event_text(data, out),
-        Kind::TimeText => flat_texts::time_text(data, out),
-        Kind::RecordId => flat_answers::record_id(data, out),
-        Kind::Request => flat_requests::request(data, out),
+        AnswerKind::Entry => flat_record::entry(data, out),
+        AnswerKind::GetEntry => flat_record::get_entry(data, out),
+        AnswerKind::Info => flat_answers::info(data, out),
+        AnswerKind::Allocation => flat_answers::allocation(data, out),
+        AnswerKind::Reserve => flat_answers::reserve(data, out),
+        AnswerKind::Clear => flat_answers::clear(data, out),
     }
 }

@@ -1,0 +1,32 @@
+-- `event_data_text` meets its contract. Assumes nothing.
+use borrow.Author.Tests.{eq-eqb, ne-eqb}
+use Rattle.event_data.specs.EventData.{eventDataOf}
+use Rattle.flat_form.proofs.Laws.{gives-refusal, gives-written}
+use Rattle.flat.specs.Texts.{eventDataTextFlat}
+use borrow.Author.Needs.{needs}
+use Rattle.flat.proofs.texts.event_data_text.Statement.{statement}
+use Rattle.flat.proofs.texts.event_data_text.Tie as tie
+
+returns : tie.Need-returns
+unfolding eventDataTextFlat
+returns c = rw (ne-eqb _ 3 (c .before .if1 .taken)) (gives-refusal (c .no-question .ensures))
+
+returns-2 : tie.Need-returns-2
+unfolding eventDataTextFlat eventDataOf
+returns-2 c =
+    rw (eq-eqb _ 3 (c .before .before .before .before .before .before .before .before .before .before .if1 .left), ← c .before .before .before .before .before .parse .ensures) (gives-written (c .of-written .ensures) (c .before .before .before .write-text .ensures))
+
+pub event-data-text-spec : {M : Type 1} → statement M
+event-data-text-spec =
+    tie.close
+    (tie.spec
+    (λ c κs. search needs)
+    returns
+    (λ c. search needs)
+    (λ c. search needs)
+    (λ c. search needs)
+    (λ c κs. search needs)
+    (λ c κs. search needs)
+    (λ c κs. search needs)
+    (λ c. search needs)
+    returns-2)

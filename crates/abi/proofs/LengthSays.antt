@@ -8,6 +8,7 @@ use lib.ListN.{length}
 use Rattle.field.specs.Handed.{short}
 use Rattle.connection.specs.Channel.{validChannel}
 use Rattle.answers.specs.Length.{bytesThatCount, lengthAnswer, lengthHands, refusedLength}
+use Rattle.answers.specs.Rows.{handsOf}
 use Rattle.answers.specs.declared.AnswerKind.{AnswerKind}
 use Rattle.answers.specs.declared.LengthAnswer.{LengthAnswer}
 use Rattle.answers.proofs.BytesThatCount.{bytes-that-count, enough}
@@ -19,17 +20,19 @@ use Rattle.capture.specs.Walked.{numberOf as walkedNumber}
 use Rattle.capture.specs.declared.SlotsAnswer.{SlotsAnswer}
 use Rattle.capture.specs.declared.Verdict.{Verdict}
 use Rattle.capture.proofs.SlotsLength.{slots-length}
+use Rattle.flat_form.specs.Form.{taken}
 use Rattle.flat_form.specs.declared.SelAnswer.{SelAnswer}
+use Rattle.flat.specs.Kinds.{flatBy, flatOf}
 use Rattle.flat.specs.Letters.{kindOf}
 use Rattle.flat.specs.declared.Kind.{Kind}
 use Rattle.flat.proofs.Counts.{flat-counts}
-use Rattle.flat.proofs.Rows.{flat-rows, flat-taken}
+use Rattle.flat.proofs.Rows.{flat-rows, is-taken, decides as flat-of}
 use Rattle.abi.specs.LengthSays.{LengthSays, SlotsSay}
 use Rattle.abi.specs.Questions.{lengthNumber, letterBytes, ofAnswer}
 use Rattle.abi.specs.Walks.{Walks, walkAnswer}
 use Rattle.abi.specs.declared.walk.SelWalk.{SelWalk}
 
-module _ (letter : ℕ) (kind : AnswerKind) (names : kindOf letter ≡ Kind.Answer kind) (n : ℕ) where
+module _ (letter : ℕ) (kind : AnswerKind) (n : ℕ) (names : kindOf letter ≡ Kind.Answer kind) where
   length-is : lengthNumber letter n ≡ lengthHands kind n .number
   length-is = ap (ofAnswer (λ (k : AnswerKind). lengthHands k n .number) 255) names
 
@@ -55,20 +58,24 @@ module _ (letter : ℕ) (kind : AnswerKind) (names : kindOf letter ≡ Kind.Answ
   may-be-read : lengthNumber letter n ≡ 0 → lengthAnswer kind n ≡ LengthAnswer.MayBeRead
   may-be-read z = else-read (λ o. omega arith) .1
 
-  pub length-says : LengthSays letter kind names n
-  length-says = record {
-    refused = λ z s out left r a g.
-        let e = decides validChannel kind n .refused .0 (told z) s a in
-        let row = answer-rows validChannel kind s .rows .exactly (short (bytesThatCount kind)) .0 e in
-        ap (λ (x : SelAnswer). x .number) (flat-rows letter kind names s out left r .refused g _ row (λ y. omega (arith, y)));
-    readable = λ z.
-        let e = else-read z in
-        let d = decides validChannel kind n .readable (e .1) in
-        (e .0, (d .0, d .1, flat-taken letter kind names (d .0) (d .2)));
-    there = λ z. rw bytes-are (enough kind n (may-be-read z));
-    few = rw bytes-are (bytes-that-count validChannel kind [] .few);
-    cut = λ z s e. rw bytes-are (flat-counts letter kind names s .same (rw e (may-be-read z)));
-  }
+  -- an answer with the number 0 is taken
+  accepted : (s : List ℕ) → handsOf validChannel kind s .number ≡ 0 → (flat : List ℕ) × (flatOf letter s ≡ taken flat)
+  accepted s z = (flat-of kind .0 s, ap (λ (k : Kind). flatBy k s) names ∙ flat-of kind .1 s ∙ is-taken _ _ z)
+
+pub length-says : (letter : ℕ) (kind : AnswerKind) (n : ℕ) → LengthSays letter kind n
+length-says letter kind n = record {
+  refused = λ names z s out left r a g.
+      let e = decides validChannel kind n .refused .0 (told letter kind n names z) s a in
+      let row = answer-rows validChannel kind s .rows .exactly (short (bytesThatCount kind)) .0 e in
+      ap (λ (x : SelAnswer). x .number) (flat-rows letter kind s out left r .refused (names, g) _ row (λ y. omega (arith, y)));
+  readable = λ names z.
+      let e = else-read letter kind n names z in
+      let d = decides validChannel kind n .readable (e .1) in
+      (e .0, (d .0, d .1, accepted letter kind n names (d .0) (d .2)));
+  there = λ names z. rw (bytes-are letter kind n names) (enough kind n (may-be-read letter kind n names z));
+  few = λ names. rw (bytes-are letter kind n names) (bytes-that-count validChannel kind [] .few);
+  cut = λ names z s e. rw (bytes-are letter kind n names) (flat-counts letter kind s .same names (rw e (may-be-read letter kind n names z)));
+}
 
 -- the walk's number, in both forms of its answer
 pub walk-number : (v : Verdict) → walkAnswer v .number ≡ walkedNumber v .number

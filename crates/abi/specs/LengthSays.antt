@@ -17,17 +17,19 @@ use Rattle.abi.specs.Questions.{letterBytes, lengthNumber}
 use Rattle.abi.specs.Walks.{Walks}
 use Rattle.abi.specs.declared.walk.SelWalk.{SelWalk}
 
--- of a letter that names a kind of answer
-pub record LengthSays (letter : ℕ) (kind : AnswerKind) (names : kindOf letter ≡ Kind.Answer kind) (n : ℕ) : Type 0 where
+-- of a letter that names the kind of answer
+pub record LengthSays (letter : ℕ) (kind : AnswerKind) (n : ℕ) : Type 0 where
   -- where it says 1, every answer of that length is refused with 1, whatever output is lent
-  pub refused : lengthNumber letter n ≡ 1 → (s out left : List ℕ) (r : SelAnswer) → Bytes n s → Gives (flatOf letter s) out r left → r .number ≡ 1
+  pub refused : kindOf letter ≡ Kind.Answer kind → lengthNumber letter n ≡ 1 → (s out left : List ℕ) (r : SelAnswer) → Bytes n s
+      → Gives (flatOf letter s) out r left → r .number ≡ 1
   -- else it says 0, and some answer of that length is accepted
-  pub readable : (lengthNumber letter n ≡ 1 → ⊥)
+  pub readable : kindOf letter ≡ Kind.Answer kind → (lengthNumber letter n ≡ 1 → ⊥)
       → (lengthNumber letter n ≡ 0) × ((s : List ℕ) × Bytes n s × ((flat : List ℕ) × (flatOf letter s ≡ taken flat)))
   -- it then has the bytes that count, at most 18, and these alone come to the same: so `sel_decode` answers and writes the same of them
-  pub there : lengthNumber letter n ≡ 0 → letterBytes letter ≤ n
-  pub few : letterBytes letter ≤ 18
-  pub cut : lengthNumber letter n ≡ 0 → (s : List ℕ) → length s ≡ n → flatOf letter (take (letterBytes letter) s) ≡ flatOf letter s
+  pub there : kindOf letter ≡ Kind.Answer kind → lengthNumber letter n ≡ 0 → letterBytes letter ≤ n
+  pub few : kindOf letter ≡ Kind.Answer kind → letterBytes letter ≤ 18
+  pub cut : kindOf letter ≡ Kind.Answer kind → lengthNumber letter n ≡ 0 → (s : List ℕ) → length s ≡ n
+      → flatOf letter (take (letterBytes letter) s) ≡ flatOf letter s
 
 pub record SlotsSay (len : ℕ) : Type 0 where
   -- where it says 5, every capture of that length is refused with 5, whatever the budget and the list

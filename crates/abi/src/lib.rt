@@ -104,5 +104,5 @@ pub extern "C" fn sel_request(
 ) -> SelAnswer
     ensures { λ r. ⌜ Gives (requestOf command reservation argument) (now (out .entry)) r (now (out .exit)) ⌝ }
 {
-    flat::requests::requested(command, reservation, argument, out)
+    flat::requested(command, reservation, argument, out)
 }

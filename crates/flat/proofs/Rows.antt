@@ -34,11 +34,11 @@ decides AnswerKind.Allocation = (_, λ s. refl)
 decides AnswerKind.Reserve = (_, λ s. refl)
 decides AnswerKind.Clear = (_, λ s. refl)
 
-is-refused : (h : Handed) (flat : List ℕ) → (h .number ≡ 0 → ⊥) → decided h flat ≡ refused h
+pub is-refused : (h : Handed) (flat : List ℕ) → (h .number ≡ 0 → ⊥) → decided h flat ≡ refused h
 unfolding decided
 is-refused h flat n = rw (ne-eqb (h .number) 0 n)
 
-is-taken : (h : Handed) (flat : List ℕ) → h .number ≡ 0 → decided h flat ≡ taken flat
+pub is-taken : (h : Handed) (flat : List ℕ) → h .number ≡ 0 → decided h flat ≡ taken flat
 unfolding decided
 is-taken h flat e = rw (eq-eqb (h .number) 0 e)
 
@@ -51,7 +51,7 @@ module _ {out left : List ℕ} {r : SelAnswer} (flat : List ℕ) (g : Gives (tak
   too-long : length out < length flat → r ≡ said 4 0 (length flat)
   too-long h = g .answered ∙ rw (lt-leb (length flat) (length out) h)
 
-  no-other : (n : ℕ) → (n ≡ 0 → ⊥) → (n ≡ 4 → ⊥) → r .number ≡ n → ⊥
+  pub no-other : (n : ℕ) → (n ≡ 0 → ⊥) → (n ≡ 4 → ⊥) → r .number ≡ n → ⊥
   no-other n z f =
       rw (g .answered) (either (λ w. fromWritten w .number ≡ n → ⊥) (leb (length flat) (length out)) _ _ (λ e. z (sym e)) (λ e. f (sym e)))
 

@@ -8,14 +8,7 @@ use Rattle.flat.specs.declared.Kind.{Kind}
 -- what belongs to the kind of answer that a letter names; `none` where it names no answer
 abbrev pub ofAnswer : {A : Type 0} → (AnswerKind → A) → A → Kind → A
 ofAnswer of none (Kind.Answer kind) = of kind
-ofAnswer of none Kind.EntryText = none
-ofAnswer of none Kind.RecordPart = none
-ofAnswer of none Kind.EventData = none
-ofAnswer of none Kind.EventDataText = none
-ofAnswer of none Kind.EventText = none
-ofAnswer of none Kind.TimeText = none
-ofAnswer of none Kind.RecordId = none
-ofAnswer of none Kind.Request = none
+ofAnswer of none (Kind.Other question) = none
 ofAnswer of none Kind.NoKind = none
 
 -- what the length alone decides of an answer of the kind that the letter names: 0 or 1; 255 for any other letter

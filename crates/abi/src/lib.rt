@@ -68,10 +68,11 @@ pub extern "C" fn sel_decode(kind: u8, data: &[u8], out: &mut [u8]) -> SelAnswer
 pub extern "C" fn sel_length(kind: u8, len: usize) -> u32
     ensures { λ r. ⌜ r ≡ lengthNumber kind len ⌝ }
 {
-    let Kind::Answer(asked) = flat::kind_of(kind) else {
-        return NO_QUESTION;
-    };
-    length_number(asked, len)
+    match flat::kind_of(kind) {
+        Kind::Answer(asked) => length_number(asked, len),
+        Kind::Other(_) => NO_QUESTION,
+        Kind::NoKind => NO_QUESTION,
+    }
 }
 
 fn length_number(kind: AnswerKind, len: usize) -> u32
@@ -88,10 +89,11 @@ fn length_number(kind: AnswerKind, len: usize) -> u32
 pub extern "C" fn sel_bytes_that_count(kind: u8) -> usize
     ensures { λ r. ⌜ r ≡ letterBytes kind ⌝ }
 {
-    let Kind::Answer(asked) = flat::kind_of(kind) else {
-        return 0;
-    };
-    answers::bytes_that_count(asked)
+    match flat::kind_of(kind) {
+        Kind::Answer(asked) => answers::bytes_that_count(asked),
+        Kind::Other(_) => 0,
+        Kind::NoKind => 0,
+    }
 }
 
 // The payload of a request. The argument is the record's id, or what Clear SEL is to do; a command that has no payload does not look at it.

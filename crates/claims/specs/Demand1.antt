@@ -30,6 +30,7 @@ use Rattle.flat.specs.Kinds.{flatOf}
 use Rattle.flat.specs.Letters.{kindOf}
 use Rattle.flat.specs.Rows.{FlatRows}
 use Rattle.flat.specs.declared.Kind.{Kind}
+use Rattle.flat.specs.declared.Question.{Question}
 use Rattle.slot_line.specs.Input.{inputHands, judgeInput, lineForm, lines, numberOf as inputNumber}
 use Rattle.slot_line.specs.Line.{fits}
 use Rattle.slot_line.specs.declared.Judged.{Judged}
@@ -70,10 +71,9 @@ pub record Demand1 : Type 0 where
   -- the valid channels that these rows speak of
   pub channels : (n : ℕ) → (validChannel n ≡ true) ↔ Valid n
   -- the same of `flat`, which reads any bytes as the kind that any letter names
-  pub flat : (letter : ℕ) (kind : AnswerKind) (names : kindOf letter ≡ Kind.Answer kind) (s out left : List ℕ) (r : SelAnswer)
-      → FlatRows letter kind names s out left r
+  pub flat : (letter : ℕ) (kind : AnswerKind) (s out left : List ℕ) (r : SelAnswer) → FlatRows letter kind s out left r
   -- where it is asked for the text of a record's event, it refuses as the record is refused
-  pub flatText : (letter : ℕ) → kindOf letter ≡ Kind.EntryText → (s out left : List ℕ) (r : SelAnswer) → Gives (flatOf letter s) out r left
+  pub flatText : (letter : ℕ) → kindOf letter ≡ Kind.Other Question.EntryText → (s out left : List ℕ) (r : SelAnswer) → Gives (flatOf letter s) out r left
       → (n : ℕ) → (n ≡ 0 → ⊥) → (n ≡ 4 → ⊥) → (r .number ≡ n) ↔ ((h : Handed) × Row validChannel AnswerKind.Entry s h × (h .number ≡ n))
   -- row 4: whoever writes a text or a request gives it exactly if the output is shorter, with the length needed
   pub written : (text out left : List ℕ) (r : Written) → Room text out left r
@@ -110,4 +110,4 @@ pub record Demand1 : Type 0 where
   -- so whatever a parser answers of an answer whose length may be read, it answers of those bytes alone; and so does `flat`
   pub cut : (kind : AnswerKind) (s : List ℕ) (r r′ : Answer kind) → lengthAnswer kind (length s) ≡ LengthAnswer.MayBeRead
       → Promised kind r s → Promised kind r′ (take (bytesThatCount kind) s) → r ≡ r′
-  pub flatCut : (letter : ℕ) (kind : AnswerKind) (names : kindOf letter ≡ Kind.Answer kind) (s : List ℕ) → FlatCounts letter kind names s
+  pub flatCut : (letter : ℕ) (kind : AnswerKind) (s : List ℕ) → FlatCounts letter kind s

@@ -6,9 +6,7 @@ use Rattle.answers.specs.declared.AnswerKind.{AnswerKind}
 use Rattle.flat_form.specs.Form.{Flat}
 use Rattle.flat_form.specs.Untouched.{OneAnswer, Untouched}
 use Rattle.flat_form.specs.declared.SelAnswer.{SelAnswer}
-use Rattle.flat.specs.Letters.{kindOf}
 use Rattle.flat.specs.Sizes.{Sizes}
-use Rattle.flat.specs.declared.Kind.{Kind}
 use Rattle.abi.specs.Filled.{Filled}
 use Rattle.abi.specs.FromStore.{FromStore}
 use Rattle.abi.specs.LengthSays.{LengthSays, SlotsSay}
@@ -24,7 +22,7 @@ pub record Header : Type 0 where
       → (store ≡ a) × (starts ≡ b) × (lengths ≡ c)
   pub unlisted : (s : List ℕ) (b : ℕ) (old left : List ℕ) (r : SelWalk) → Walks s b old r left → (r .number ≡ 0 → ⊥) → left ≡ old
   -- what `sel_length` says of a length, `sel_decode` says of every answer of it, and of its first `sel_bytes_that_count` bytes
-  pub lengths : (letter : ℕ) (kind : AnswerKind) (names : kindOf letter ≡ Kind.Answer kind) (n : ℕ) → LengthSays letter kind names n
+  pub lengths : (letter : ℕ) (kind : AnswerKind) (n : ℕ) → LengthSays letter kind n
   -- what `sel_slots_length` says of a length, `sel_walk` says of every capture of it
   pub slots : (len : ℕ) → SlotsSay len
   -- how many bytes can be written

@@ -21,6 +21,7 @@ use Rattle.flat_form.proofs.Untouched.{untouched-else}
 use Rattle.flat_record.specs.Records.{entryFlat, getEntryFlat}
 use Rattle.flat_answers.specs.Answers.{allocationFlat, clearFlat, infoFlat, reserveFlat}
 use Rattle.flat.specs.Kinds.{answerFlat, flatBy, flatOf}
+use Rattle.flat.specs.Letters.{kindOf}
 use Rattle.flat.specs.Rows.{Asked, FlatRows}
 use Rattle.flat.specs.declared.Kind.{Kind}
 
@@ -33,6 +34,9 @@ decides AnswerKind.Info = (_, λ s. refl)
 decides AnswerKind.Allocation = (_, λ s. refl)
 decides AnswerKind.Reserve = (_, λ s. refl)
 decides AnswerKind.Clear = (_, λ s. refl)
+
+pub by-number : (letter : ℕ) {kind : AnswerKind} (s : List ℕ) → kindOf letter ≡ Kind.Answer kind → flatOf letter s ≡ decided (handsOf validChannel kind s) (decides kind .0 s)
+by-number letter {kind} s k = ap (λ (x : Kind). flatBy x s) k ∙ decides kind .1 s
 
 pub is-refused : (h : Handed) (flat : List ℕ) → (h .number ≡ 0 → ⊥) → decided h flat ≡ refused h
 unfolding decided
@@ -51,35 +55,29 @@ module _ {out left : List ℕ} {r : SelAnswer} (flat : List ℕ) (g : Gives (tak
   too-long : length out < length flat → r ≡ said 4 0 (length flat)
   too-long h = g .answered ∙ rw (lt-leb (length flat) (length out) h)
 
-  pub no-other : (n : ℕ) → (n ≡ 0 → ⊥) → (n ≡ 4 → ⊥) → r .number ≡ n → ⊥
+  no-other : (n : ℕ) → (n ≡ 0 → ⊥) → (n ≡ 4 → ⊥) → r .number ≡ n → ⊥
   no-other n z f =
       rw (g .answered) (either (λ w. fromWritten w .number ≡ n → ⊥) (leb (length flat) (length out)) _ _ (λ e. z (sym e)) (λ e. f (sym e)))
 
 module _ (letter : ℕ) (kind : AnswerKind) (s out left : List ℕ) (r : SelAnswer) where
-  hands : Handed
+  abbrev hands : Handed
   hands = handsOf validChannel kind s
 
-  flat : List ℕ
+  abbrev flat : List ℕ
   flat = decides kind .0 s
-
-  by-number : Asked letter kind s out left r → flatOf letter s ≡ decided hands flat
-  unfolding hands flat
-  by-number a = ap (λ (k : Kind). flatBy k s) (a .0) ∙ decides kind .1 s
 
   -- what is given is what the row of any number says
   by-row : (h : Handed) → Row validChannel kind s h → hands ≡ h
-  unfolding hands
   by-row h = answer-rows validChannel kind s .rows .exactly h .1
 
   turned : Asked letter kind s out left r → (h : Handed) → Row validChannel kind s h → (h .number ≡ 0 → ⊥) → r ≡ refusal h
-  turned a h p n = gives-is (by-number a ∙ ap (λ (x : Handed). decided x flat) (by-row h p) ∙ is-refused h flat n) (a .1) .answered
+  turned a h p n = gives-is (by-number letter s (a .0) ∙ ap (λ (x : Handed). decided x flat) (by-row h p) ∙ is-refused h flat n) (a .1) .answered
 
   number : Asked letter kind s out left r → (n : ℕ) → (n ≡ 0 → ⊥) → (n ≡ 4 → ⊥) → r .number ≡ n → Dec (hands .number ≡ 0) → hands .number ≡ n
-  number a n z f e (yes t) = absurd (no-other flat (gives-is (by-number a ∙ is-taken hands flat t) (a .1)) n z f e)
-  number a n z f e (no t) = ap (λ (x : SelAnswer). x .number) (sym (gives-is (by-number a ∙ is-refused hands flat t) (a .1) .answered)) ∙ e
+  number a n z f e (yes t) = absurd (no-other flat (gives-is (by-number letter s (a .0) ∙ is-taken hands flat t) (a .1)) n z f e)
+  number a n z f e (no t) = ap (λ (x : SelAnswer). x .number) (sym (gives-is (by-number letter s (a .0) ∙ is-refused hands flat t) (a .1) .answered)) ∙ e
 
   pub flat-rows : FlatRows letter kind s out left r
-  unfolding hands
   flat-rows =
       record {
         refused = turned;
@@ -88,7 +86,7 @@ module _ (letter : ℕ) (kind : AnswerKind) (s out left : List ℕ) (r : SelAnsw
           λ w. ap (λ (x : SelAnswer). x .number) (turned a (w .0) (w .1) (λ q. z (sym (w .2) ∙ q))) ∙ w .2,
         );
         accepted = λ a p.
-            let e = by-number a ∙ is-taken hands flat (ap (λ (x : Handed). x .number) (by-row _ p)) in
+            let e = by-number letter s (a .0) ∙ is-taken hands flat (ap (λ (x : Handed). x .number) (by-row _ p)) in
             (flat, e, fits flat (gives-is e (a .1)), too-long flat (gives-is e (a .1)));
         untouched = λ a. untouched-else (flatOf letter s) out left r .untouched (a .1);
       }

@@ -36,6 +36,7 @@ use Rattle.flat.specs.Requests.{clearOf, questionLength, requestFlat, re
 use Rattle.flat.specs.Sizes.{Sizes, flatRoom, requestRoom}
 use Rattle.flat.specs.Texts.{entryTextFlat, eventDataTextFlat, eventTextFlat, timeTextFlat}
 use Rattle.flat.specs.declared.Kind.{Kind}
+use Rattle.flat.specs.declared.Question.{Question}
 
 -- if the question is taken, its flat bytes have P
 abbrev Has : (List ℕ → Type 0) → Flat → Type 0
@@ -120,17 +121,17 @@ module _ (s : List ℕ) where
   kind-fits : (kind : Kind) → (isText kind ≡ true → Bytes (length s) s) → Fits (if isText kind then eventRoom else flatRoom) (flatBy kind s)
   unfolding recordPartFlat eventDataFlat recordIdFlat idFlat requestFlat entryTextFlat eventDataTextFlat eventTextFlat timeTextFlat
   kind-fits (Kind.Answer kind) bs = answer-fits kind s
-  kind-fits Kind.EntryText bs =
+  kind-fits (Kind.Other Question.EntryText) bs =
       decided-has _ _ _ (λ z. either (λ (l : List ℕ). length l ≤ eventRoom) (eqb (typeAt s) 0x02) _ _ (event-length _ _ _) (omega arith))
-  kind-fits Kind.RecordPart bs = omega (arith, part-short s)
-  kind-fits Kind.EventData bs = either (Fits flatRoom) (eqb (length s) 3) _ _ (omega arith) tt
-  kind-fits Kind.EventDataText bs = either (Fits eventRoom) (eqb (length s) 3) _ _ (omega (arith, data-short s (bs refl .each 1) (bs refl .each 2))) tt
-  kind-fits Kind.EventText bs = either (Fits eventRoom) (eqb (length s) 3) _ _ (event-length _ _ _) tt
-  kind-fits Kind.TimeText bs =
+  kind-fits (Kind.Other Question.RecordPart) bs = omega (arith, part-short s)
+  kind-fits (Kind.Other Question.EventData) bs = either (Fits flatRoom) (eqb (length s) 3) _ _ (omega arith) tt
+  kind-fits (Kind.Other Question.EventDataText) bs = either (Fits eventRoom) (eqb (length s) 3) _ _ (omega (arith, data-short s (bs refl .each 1) (bs refl .each 2))) tt
+  kind-fits (Kind.Other Question.EventText) bs = either (Fits eventRoom) (eqb (length s) 3) _ _ (event-length _ _ _) tt
+  kind-fits (Kind.Other Question.TimeText) bs =
       let b = bs refl .each in
       either (Fits eventRoom) (eqb (length s) 4) _ _ (omega (arith, time-length (le32At s 0) (omega (arith, b 0, b 1, b 2, b 3)))) tt
-  kind-fits Kind.RecordId bs = either (Fits flatRoom) (eqb (length s) 2) _ _ (omega arith) tt
-  kind-fits Kind.Request bs =
+  kind-fits (Kind.Other Question.RecordId) bs = either (Fits flatRoom) (eqb (length s) 2) _ _ (omega arith) tt
+  kind-fits (Kind.Other Question.Request) bs =
       either (Fits flatRoom) (eqb (length s) (questionLength (byteAt s 0))) _ _ (request-fits flatRoom (omega arith) _ _ _) tt
   kind-fits Kind.NoKind bs = tt
 

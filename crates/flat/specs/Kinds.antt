@@ -10,6 +10,7 @@ use Rattle.flat.specs.Letters.{kindOf}
 use Rattle.flat.specs.Requests.{requestFlat}
 use Rattle.flat.specs.Texts.{entryTextFlat, eventDataTextFlat, eventTextFlat, timeTextFlat}
 use Rattle.flat.specs.declared.Kind.{Kind}
+use Rattle.flat.specs.declared.Question.{Question}
 
 abbrev pub answerFlat : AnswerKind → List ℕ → Flat
 answerFlat AnswerKind.Entry s = entryFlat s
@@ -19,16 +20,19 @@ answerFlat AnswerKind.Allocation s = allocationFlat s
 answerFlat AnswerKind.Reserve s = reserveFlat s
 answerFlat AnswerKind.Clear s = clearFlat s
 
+abbrev pub otherFlat : Question → List ℕ → Flat
+otherFlat Question.EntryText s = entryTextFlat s
+otherFlat Question.RecordPart s = recordPartFlat s
+otherFlat Question.EventData s = eventDataFlat s
+otherFlat Question.EventDataText s = eventDataTextFlat s
+otherFlat Question.EventText s = eventTextFlat s
+otherFlat Question.TimeText s = timeTextFlat s
+otherFlat Question.RecordId s = recordIdFlat s
+otherFlat Question.Request s = requestFlat s
+
 abbrev pub flatBy : Kind → List ℕ → Flat
 flatBy (Kind.Answer kind) s = answerFlat kind s
-flatBy Kind.EntryText s = entryTextFlat s
-flatBy Kind.RecordPart s = recordPartFlat s
-flatBy Kind.EventData s = eventDataFlat s
-flatBy Kind.EventDataText s = eventDataTextFlat s
-flatBy Kind.EventText s = eventTextFlat s
-flatBy Kind.TimeText s = timeTextFlat s
-flatBy Kind.RecordId s = recordIdFlat s
-flatBy Kind.Request s = requestFlat s
+flatBy (Kind.Other question) s = otherFlat question s
 flatBy Kind.NoKind s = noQuestion
 
 -- by the letter of the kind

@@ -8,13 +8,19 @@ use flat_form::no_question;
 pub use requests::requested;
 ghost use mathlib.Core.Path.{_≡_};
 ghost use Rattle.flat_form.specs.Form.{Gives};
-ghost use Rattle.flat.specs.Kinds.{answerFlat, flatOf};
-ghost use Rattle.flat.specs.Letters.{isText, kindOf};
+ghost use Rattle.flat.specs.Kinds.{answerFlat, flatOf, otherFlat};
+ghost use Rattle.flat.specs.Letters.{isText, kindOf, textQuestion};
 
 // What the bytes of a question are read as.
 pub enum Kind {
     // An answer to a command, or a record.
     Answer(AnswerKind),
+    Other(Question),
+    NoKind,
+}
+
+// What is no answer by itself.
+pub enum Question {
     // A record, for its event's text.
     EntryText,
     // An answer to Get SEL Entry, for its record's bytes.
@@ -30,7 +36,6 @@ pub enum Kind {
     RecordId,
     // A command and its fields.
     Request,
-    NoKind,
 }
 
 // The kind that a letter names.
@@ -44,14 +49,14 @@ pub fn kind_of(letter: u8) -> Kind
         b'a' => Kind::Answer(AnswerKind::Allocation),
         b'r' => Kind::Answer(AnswerKind::Reserve),
         b'c' => Kind::Answer(AnswerKind::Clear),
-        b'y' => Kind::EntryText,
-        b'p' => Kind::RecordPart,
-        b'd' => Kind::EventData,
-        b'v' => Kind::EventDataText,
-        b'x' => Kind::EventText,
-        b't' => Kind::TimeText,
-        b'n' => Kind::RecordId,
-        b'q' => Kind::Request,
+        b'y' => Kind::Other(Question::EntryText),
+        b'p' => Kind::Other(Question::RecordPart),
+        b'd' => Kind::Other(Question::EventData),
+        b'v' => Kind::Other(Question::EventDataText),
+        b'x' => Kind::Other(Question::EventText),
+        b't' => Kind::Other(Question::TimeText),
+        b'n' => Kind::Other(Question::RecordId),
+        b'q' => Kind::Other(Question::Request),
         _ => Kind::NoKind,
     }
 }
@@ -62,15 +67,23 @@ pub fn is_text(kind: Kind) -> bool
 {
     match kind {
         Kind::Answer(_) => false,
-        Kind::EntryText => true,
-        Kind::RecordPart => false,
-        Kind::EventData => false,
-        Kind::EventDataText => true,
-        Kind::EventText => true,
-        Kind::TimeText => true,
-        Kind::RecordId => false,
-        Kind::Request => false,
+        Kind::Other(question) => text_question(question),
         Kind::NoKind => false,
+    }
+}
+
+fn text_question(question: Question) -> bool
+    ensures { λ r. ⌜ r ≡ textQuestion question ⌝ }
+{
+    match question {
+        Question::EntryText => true,
+        Question::RecordPart => false,
+        Question::EventData => false,
+        Question::EventDataText => true,
+        Question::EventText => true,
+        Question::TimeText => true,
+        Question::RecordId => false,
+        Question::Request => false,
     }
 }
 
@@ -80,15 +93,23 @@ pub fn flat(letter: u8, data: &[u8], out: &mut [u8]) -> SelAnswer
 {
     match kind_of(letter) {
         Kind::Answer(kind) => answer(kind, data, out),
-        Kind::EntryText => texts::entry_text(data, out),
-        Kind::RecordPart => flat_record::record_part(data, out),
-        Kind::EventData => flat_record::event_data(data, out),
-        Kind::EventDataText => texts::event_data_text(data, out),
-        Kind::EventText => texts::event_text(data, out),
-        Kind::TimeText => texts::time_text(data, out),
-        Kind::RecordId => flat_answers::record_id(data, out),
-        Kind::Request => requests::request(data, out),
+        Kind::Other(question) => other(question, data, out),
         Kind::NoKind => no_question(),
+    }
+}
+
+fn other(question: Question, data: &[u8], out: &mut [u8]) -> SelAnswer
+    ensures { λ r. ⌜ Gives (otherFlat question (now («data» .entry))) (now (out .entry)) r (now (out .exit)) ⌝ }
+{
+    match question {
+        Question::EntryText => texts::entry_text(data, out),
+        Question::RecordPart => flat_record::record_part(data, out),
+        Question::EventData => flat_record::event_data(data, out),
+        Question::EventDataText => texts::event_data_text(data, out),
+        Question::EventText => texts::event_text(data, out),
+        Question::TimeText => texts::time_text(data, out),
+        Question::RecordId => flat_answers::record_id(data, out),
+        Question::Request => requests::request(data, out),
     }
 }
 

@@ -7,15 +7,9 @@ use Rattle.abi.proofs.texts.sel_data_text.Statement.{statement}
 use Rattle.abi.proofs.texts.sel_data_text.Tie as tie
 
 returns : tie.Need-returns
-returns c = gives-text (ap dataText (c .before .before .before .before .before .parse .ensures)) (c .of-written .ensures) (c .before .before .before .write-text .ensures)
+returns c = 
+    gives-text (ap dataText (c .before .before .before .before .before .parse .ensures)) (c .of-written .ensures) (c .before .before .before .write-text .ensures)
 
 pub sel-data-text-spec : {M : Type 1} → statement M
 sel-data-text-spec =
-    tie.close
-    (tie.spec
-    (λ c κs. search needs)
-    (λ c κs. search needs)
-    (λ c κs. search needs)
-    (λ c κs. search needs)
-    (λ c. search needs)
-    returns)
+    tie.close (tie.spec (λ c κs. search needs) (λ c κs. search needs) (λ c κs. search needs) (λ c. search needs) returns)

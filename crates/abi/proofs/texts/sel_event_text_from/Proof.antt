@@ -9,10 +9,4 @@ returns c = gives-written (c .of-written .ensures) (c .before .before .before .d
 
 pub sel-event-text-from-spec : {M : Type 1} → statement M
 sel-event-text-from-spec =
-    tie.close
-    (tie.spec
-    (λ c κs. search needs)
-    (λ c κs. search needs)
-    (λ c κs. search needs)
-    (λ c. search needs)
-    returns)
+    tie.close (tie.spec (λ c κs. search needs) (λ c κs. search needs) (λ c. search needs) returns)

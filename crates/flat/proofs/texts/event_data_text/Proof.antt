@@ -14,7 +14,8 @@ returns c = rw (ne-eqb _ 3 (c .before .if1 .taken)) (gives-refusal (c .no-questi
 returns-2 : tie.Need-returns-2
 unfolding eventDataTextFlat eventDataOf
 returns-2 c =
-    rw (eq-eqb _ 3 (c .before .before .before .before .before .before .before .before .before .before .if1 .left), ← c .before .before .before .before .before .parse .ensures) (gives-written (c .of-written .ensures) (c .before .before .before .write-text .ensures))
+    let at0 = c .before .before .before .before .before in
+    rw (eq-eqb _ 3 (at0 .before .before .before .before .before .if1 .left), ← at0 .parse .ensures) (gives-written (c .of-written .ensures) (c .before .before .before .write-text .ensures))
 
 pub event-data-text-spec : {M : Type 1} → statement M
 event-data-text-spec =

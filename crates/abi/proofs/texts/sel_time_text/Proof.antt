@@ -8,7 +8,7 @@ use Rattle.abi.proofs.texts.sel_time_text.Statement.{statement}
 use Rattle.abi.proofs.texts.sel_time_text.Tie as tie
 
 returns : tie.Need-returns
-returns c = 
+returns c =
     gives-text (ap (λ (t : Timestamp). timeText (t .0)) (c .before .before .before .before .before .from-u32 .ensures)) (c .of-written .ensures) (c .before .before .before .write-text .ensures)
 
 pub sel-time-text-spec : {M : Type 1} → statement M

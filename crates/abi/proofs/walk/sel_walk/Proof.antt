@@ -27,11 +27,11 @@ returns : tie.Need-returns
 returns c = walks _ _ _ (c .before .before .before .before .before .walk .ensures) (sym (ap walkAnswer (c .before .read .given .1)))
 
 returns-2 : tie.Need-returns-2
-returns-2 c = 
+returns-2 c =
     walks _ _ _ (c .before .before .before .before .before .before .walk .ensures) (ap (λ (n : ℕ). walked 0 1 n (c .before .before .ask .given .0 .1 .0) 0) (c .value .ensures) ∙ sym (ap walkAnswer (c .before .before .ask .given .1)))
 
 returns-3 : tie.Need-returns-3
-returns-3 c = 
+returns-3 c =
     walks _ _ _ (c .before .before .before .before .before .before .walk .ensures) (ap (λ (n : ℕ). walked 0 2 n (c .before .before .ask2 .given .0 .1 .0) 0) (c .value2 .ensures) ∙ sym (ap walkAnswer (c .before .before .ask2 .given .1)))
 
 returns-4 : tie.Need-returns-4

@@ -22,11 +22,11 @@ use Rattle.capture.specs.declared.Verdict.{Verdict}
 use Rattle.capture.proofs.SlotsLength.{slots-length}
 use Rattle.flat_form.specs.Form.{taken}
 use Rattle.flat_form.specs.declared.SelAnswer.{SelAnswer}
-use Rattle.flat.specs.Kinds.{flatBy, flatOf}
+use Rattle.flat.specs.Kinds.{flatOf}
 use Rattle.flat.specs.Letters.{kindOf}
 use Rattle.flat.specs.declared.Kind.{Kind}
 use Rattle.flat.proofs.Counts.{flat-counts}
-use Rattle.flat.proofs.Rows.{flat-rows, is-taken, decides as flat-of}
+use Rattle.flat.proofs.Rows.{by-number, flat-rows, is-taken}
 use Rattle.abi.specs.LengthSays.{LengthSays, SlotsSay}
 use Rattle.abi.specs.Questions.{lengthNumber, letterBytes, ofAnswer}
 use Rattle.abi.specs.Walks.{Walks, walkAnswer}
@@ -60,7 +60,7 @@ module _ (letter : ℕ) (kind : AnswerKind) (n : ℕ) (names : kindOf letter ≡
 
   -- an answer with the number 0 is taken
   accepted : (s : List ℕ) → handsOf validChannel kind s .number ≡ 0 → (flat : List ℕ) × (flatOf letter s ≡ taken flat)
-  accepted s z = (flat-of kind .0 s, ap (λ (k : Kind). flatBy k s) names ∙ flat-of kind .1 s ∙ is-taken _ _ z)
+  accepted s z = (_, by-number letter s names ∙ is-taken _ _ z)
 
 pub length-says : (letter : ℕ) (kind : AnswerKind) (n : ℕ) → LengthSays letter kind n
 length-says letter kind n = record {

@@ -1,4 +1,6 @@
 -- The claims hold. Assumes nothing.
+use Rattle.flat_record.proofs.Parsed.{flat-of-parsed}
+use Rattle.record_line.proofs.Bytes.{same-line}
 use Rattle.claims.specs.Claims.{Claims}
 use Rattle.claims.specs.Demand2.{Demand2}
 use Rattle.claims.proofs.Cases.{cases}
@@ -18,6 +20,8 @@ demand-2 =
       timeTexts = time-texts;
       requests = requests;
       writes = writes;
+      flats = flat-of-parsed;
+      lines = same-line;
     }
 
 pub claims : Claims

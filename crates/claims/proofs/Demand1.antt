@@ -1,26 +1,32 @@
 -- Demand 1. Assumes nothing.
 use Prim.Native.Nat.{ℕ, _≤_, _<_}
 use mathlib.Core.Path.{_≡_, refl, sym, ap, subst, _∙_}
-use mathlib.Core.Bool.{Bool, true, false, _||_}
-use mathlib.Core.List.{List, [], _∷_}
+use mathlib.Core.Bool.{Bool, true, _||_}
+use mathlib.Core.List.{List}
 use mathlib.Core.Logic.{_↔_, inl, inr}
 use native.Mathlib.Omega.{arith}
 use native.Mathlib.Decide.{decLe, ℕ-discrete}
 use borrow.Author.Tests.{le-leb, lt-leb, ne-eqb}
 use lib.Dec.{eqb, leb}
 use lib.ListN.{length, drop}
-use Rattle.field.specs.Bits.{byteAt, le16At}
+use Rattle.field.specs.Bits.{byteAt}
 use Rattle.field.specs.Choose.{if_then_else_, within}
-use Rattle.field.specs.Handed.{Handed, handed}
+use Rattle.field.specs.Handed.{Handed}
+use Rattle.field.specs.Rows.{LongEnough, Rows, Taken, accepted, long, tooShort}
+use Rattle.field.proofs.Choices.{either}
+use Rattle.field.proofs.Rows.{rows-are}
 use Rattle.text.specs.Written.{Wrote, numberOf as writtenNumber}
 use Rattle.text.specs.declared.Written.{Written}
 use Rattle.text.proofs.Room.{room}
 use Rattle.connection.specs.Channel.{validChannel}
-use Rattle.sel.specs.Entry.{channelIn, typeAt}
-use Rattle.sel.specs.Numbers.{entryHands}
-use Rattle.sel.specs.Rows.{GoodRecord, InvalidChannel, Rows, UnknownType}
+use Rattle.sel.specs.Rows as Record
+use Rattle.sel.specs.Rows.{RecordRow}
+use Rattle.sel_commands.specs.Info as Info
+use Rattle.sel_commands.specs.Info.{InfoRow}
+use Rattle.sel_commands.specs.Reserve as Reserve
+use Rattle.sel_commands.specs.Reserve.{ReserveRow}
 use Rattle.answers.specs.Answer.{Answer, numberOf}
-use Rattle.answers.specs.Rows.{Accepted, Invalid, NotEnough, Unknown, handsOf, recordOf}
+use Rattle.answers.specs.Rows.{Row, handsOf}
 use Rattle.answers.specs.declared.AnswerKind.{AnswerKind}
 use Rattle.answers.proofs.BytesThatCount.{bytes-that-count}
 use Rattle.answers.proofs.LengthDecides.{decides}
@@ -29,25 +35,29 @@ use Rattle.capture.specs.Walked.{Walked, numberOf as walkNumber}
 use Rattle.capture.specs.declared.Verdict.{Verdict}
 use Rattle.capture.proofs.Refusals.{refusals}
 use Rattle.capture.proofs.SlotsLength.{slots-length}
-use Rattle.flat_form.specs.Form.{Flat, Gives, decided, noQuestion, refused, taken, numberOf as flatNumber}
-use Rattle.flat_form.specs.declared.FlatAnswer.{FlatAnswer}
-use Rattle.flat_form.proofs.Laws.{gives-is}
+use Rattle.flat_form.specs.Form.{Flat, Gives, decided, noQuestion, refused, taken}
+use Rattle.flat_form.specs.declared.SelAnswer.{SelAnswer}
+use Rattle.flat_form.proofs.Laws.{Told, gives-is, short, told, turned, wrote}
 use Rattle.flat_form.proofs.Untouched.{untouched-else}
-use Rattle.flat_event.specs.Event.{eventDataFlat}
-use Rattle.flat_entry.specs.Records.{entryFlat, getEntryFlat, recordPartFlat}
-use Rattle.flat_answers.specs.Answers.{allocationFlat, clearFlat, infoFlat, recordIdFlat, reserveFlat}
-use Rattle.flat_texts.specs.Texts.{entryTextFlat, eventDataTextFlat, eventTextFlat, timeTextFlat}
+use Rattle.flat_record.specs.Event.{eventDataFlat}
+use Rattle.flat_record.specs.Records.{recordPartFlat}
+use Rattle.flat_answers.specs.Answers.{recordIdFlat}
+use Rattle.flat.specs.Kinds.{flatBy, flatOf}
+use Rattle.flat.specs.Letters.{kindOf}
 use Rattle.flat.specs.Requests.{clearOf, questionLength, requestFlat, requestOf}
-use Rattle.flat.specs.Kinds.{flatOf}
+use Rattle.flat.specs.Texts.{entryTextFlat, eventDataTextFlat, eventTextFlat, timeTextFlat}
 use Rattle.flat.specs.declared.Kind.{Kind}
+use Rattle.flat.specs.declared.Question.{Question}
 use Rattle.flat.proofs.Counts.{flat-counts}
-use Rattle.flat.proofs.Rows.{flat-rows, same}
-use Rattle.slot_line.specs.Input.{judgeInput}
+use Rattle.flat.proofs.Rows.{exactly, flat-rows, too-long, decides as decides-flat}
+use Rattle.slot_line.specs.Input.{judgeInput, slotsOf}
 use Rattle.slot_line.specs.declared.Judged.{Judged}
 use Rattle.slot_line.proofs.Forms.{clash}
 use Rattle.log.specs.Closing.{numberOf as logNumber}
-use Rattle.log.specs.Log.{Logged, closingHands, handsBy, leftBy}
+use Rattle.log.specs.Log.{Logged, closingBy, closingOf, leftBy}
+use Rattle.log.specs.Verdict.{settledOf}
 use Rattle.log.specs.declared.Closing.{Closing}
+use Rattle.log.specs.declared.Settled.{Settled}
 use Rattle.claims.specs.Demand1.{Demand1, OneOf, Valid}
 use Rattle.claims.specs.Promises.{Promised}
 use Rattle.claims.proofs.Lines.{bad-carries, bad-line, good-lines, too-many}
@@ -103,95 +113,66 @@ one-row AnswerKind.Clear s = long-one taken-one
 decided-by : (kind : AnswerKind) (s : List ℕ) (r : Answer kind) → Promised kind r s → OneOf (numberOf kind r)
 decided-by kind s r p = one-row kind s (numberOf kind r) (parsed kind s r p .exactly (numberOf kind r) .0 refl)
 
--- what a question comes to: flat bytes, a refusal that is not for want of room, or none
-data Shape (q : Flat) : Type 0 where
-  of-bytes : (bytes : List ℕ) → q ≡ taken bytes → Shape q
-  of-refusal : (h : Handed) → (h .number ≡ 4 → ⊥) → q ≡ refused h → Shape q
-  of-none : q ≡ noQuestion → Shape q
+-- no question is refused with 4 of its own: that is given for want of room alone
+abbrev NotFour : Flat → Type 0
+NotFour (taken bytes) = Unit {0}
+NotFour (refused h) = h .number ≡ 4 → ⊥
 
-not-four : (h : Handed) → OneOf h → h .number ≡ 4 → ⊥
-not-four h (inl a) e = omega arith
-not-four h (inr (inl a)) e = omega arith
-not-four h (inr (inr (inl a))) e = omega arith
-not-four h (inr (inr (inr a))) e = omega arith
+one-not-four : (h : Handed) → OneOf h → h .number ≡ 4 → ⊥
+one-not-four h (inl a) e = omega arith
+one-not-four h (inr (inl a)) e = omega arith
+one-not-four h (inr (inr (inl a))) e = omega arith
+one-not-four h (inr (inr (inr a))) e = omega arith
 
-decided-shape : (h : Handed) (bytes : List ℕ) → OneOf h → Shape (decided h bytes)
+decided-not-four : (kind : AnswerKind) (s bytes : List ℕ) → NotFour (decided (handsOf validChannel kind s) bytes)
 unfolding decided
-decided-shape h bytes o = by (eqb (h .number) 0)
-  where
-    by : (b : Bool) → Shape (if b then taken bytes else refused h)
-    by true = of-bytes bytes refl
-    by false = of-refusal h (not-four h o) refl
+decided-not-four kind s bytes =
+    let h = handsOf validChannel kind s in
+    either NotFour (eqb (h .number) 0) _ _ tt (one-not-four h (one-row kind s h (answer-rows validChannel kind s .rows .exactly h .0 refl)))
 
-choice-shape : (b : Bool) {q q′ : Flat} → Shape q → Shape q′ → Shape (if b then q else q′)
-choice-shape true x y = x
-choice-shape false x y = y
+none : NotFour noQuestion
+none e = omega (arith, e)
 
-one-of : (kind : AnswerKind) (s : List ℕ) → OneOf (handsOf validChannel kind s)
-one-of kind s = one-row kind s (handsOf validChannel kind s) (answer-rows validChannel kind s .rows)
+chosen : (b : Bool) (q : Flat) → NotFour q → NotFour (if b then q else noQuestion)
+chosen b q p = either NotFour b _ _ p none
 
-shape : (kind : Kind) (s : List ℕ) → Shape (flatOf kind s)
-unfolding entryFlat getEntryFlat recordPartFlat entryTextFlat infoFlat allocationFlat reserveFlat clearFlat eventDataFlat eventDataTextFlat eventTextFlat timeTextFlat recordIdFlat requestFlat requestOf clearOf
-shape Kind.Entry s = decided-shape _ _ (one-of AnswerKind.Entry s)
-shape Kind.EntryText s = decided-shape _ _ (one-of AnswerKind.Entry s)
-shape Kind.GetEntry s = decided-shape _ _ (one-of AnswerKind.GetEntry s)
-shape Kind.RecordPart s = of-bytes _ refl
-shape Kind.Info s = decided-shape _ _ (one-of AnswerKind.Info s)
-shape Kind.Allocation s = decided-shape _ _ (one-of AnswerKind.Allocation s)
-shape Kind.Reserve s = decided-shape _ _ (one-of AnswerKind.Reserve s)
-shape Kind.Clear s = decided-shape _ _ (one-of AnswerKind.Clear s)
-shape Kind.EventData s = choice-shape (eqb (length s) 3) (of-bytes _ refl) (of-none refl)
-shape Kind.EventDataText s = choice-shape (eqb (length s) 3) (of-bytes _ refl) (of-none refl)
-shape Kind.EventText s = choice-shape (eqb (length s) 3) (of-bytes _ refl) (of-none refl)
-shape Kind.TimeText s = choice-shape (eqb (length s) 4) (of-bytes _ refl) (of-none refl)
-shape Kind.RecordId s = choice-shape (eqb (length s) 2) (of-bytes _ refl) (of-none refl)
-shape Kind.Request s =
-    choice-shape (eqb (length s) (questionLength (byteAt s 0)))
-    (choice-shape (within 0x40 0x42 (byteAt s 0)) (of-bytes _ refl)
-    (choice-shape (eqb (byteAt s 0) 0x43) (of-bytes _ refl)
-    (choice-shape (eqb (byteAt s 0) 0x47) (choice-shape (eqb (le16At s 3) 0x00AA) (of-bytes _ refl) (choice-shape (eqb (le16At s 3) 0x0000) (of-bytes _ refl) (of-none refl))) (of-none refl))))
-    (of-none refl)
+request-not-four : (command reservation argument : ℕ) → NotFour (requestOf command reservation argument)
+unfolding requestOf clearOf
+request-not-four command reservation argument =
+    either NotFour (within 0x40 0x42 command) _ _ tt
+    (either NotFour (eqb command 0x43) _ _ tt
+    (chosen (eqb command 0x47) _ (either NotFour (eqb argument 0x00AA) _ _ tt (chosen (eqb argument 0x0000) _ tt))))
 
-module _ (out left : List ℕ) (r : FlatAnswer) where
-  flat-needs : (bytes : List ℕ) → Gives (taken bytes) out r left → length out < length bytes → flatNumber r ≡ handed 4 (length bytes ∷ [])
-  flat-needs bytes g h = g .numbered ∙ rw (lt-leb (length bytes) (length out) h)
+not-four : (kind : Kind) (s : List ℕ) → NotFour (flatBy kind s)
+unfolding recordPartFlat entryTextFlat eventDataFlat eventDataTextFlat eventTextFlat timeTextFlat recordIdFlat requestFlat
+not-four (Kind.Answer kind) s = subst NotFour (sym (decides-flat kind .1 s)) (decided-not-four kind s _)
+not-four (Kind.Other Question.EntryText) s = decided-not-four AnswerKind.Entry s _
+not-four (Kind.Other Question.RecordPart) s = tt
+not-four (Kind.Other Question.EventData) s = chosen (eqb (length s) 3) _ tt
+not-four (Kind.Other Question.EventDataText) s = chosen (eqb (length s) 3) _ tt
+not-four (Kind.Other Question.EventText) s = chosen (eqb (length s) 3) _ tt
+not-four (Kind.Other Question.TimeText) s = chosen (eqb (length s) 4) _ tt
+not-four (Kind.Other Question.RecordId) s = chosen (eqb (length s) 2) _ tt
+not-four (Kind.Other Question.Request) s = chosen (eqb (length s) (questionLength (byteAt s 0))) _ (request-not-four _ _ _)
+not-four Kind.NoKind s = none
 
-  flat-fits : (bytes : List ℕ) → Gives (taken bytes) out r left → flatNumber r .number ≡ 4 → length out < length bytes
-  flat-fits bytes g e = by (decLe (length bytes) (length out))
-    where
-      by : Dec (length bytes ≤ length out) → length out < length bytes
-      by (no h) = omega arith
-      by (yes h) =
-          let z : flatNumber r ≡ handed 0 (length bytes ∷ []) = g .numbered ∙ rw (le-leb (length bytes) (length out) h) in
-          absurd (let y : _≡_ {A = ℕ} 0 4 = sym (ap (λ (x : Handed). x .number) z) ∙ e in omega arith)
+flat-four : (q : Flat) {out left : List ℕ} (r : SelAnswer) → NotFour q → Told q out left r → r .number ≡ 4
+    → (bytes : List ℕ) × (q ≡ taken bytes) × (length out < length bytes)
+flat-four q _ f (wrote e p) n = absurd (omega (arith, n))
+flat-four q _ f (short {t} e h l) n = (t, e, h)
+flat-four q _ f (turned e l) n = absurd (subst NotFour e f n)
 
-  flat-four : (q : Flat) → Shape q → Gives q out r left → flatNumber r .number ≡ 4 → (bytes : List ℕ) × (q ≡ taken bytes) × (length out < length bytes)
-  flat-four q (of-bytes bytes e) g n = (bytes, e, flat-fits bytes (gives-is e g) n)
-  flat-four q (of-refusal h f e) g n = absurd (f (sym (ap (λ (x : Handed). x .number) (gives-is e g .numbered)) ∙ n))
-  flat-four q (of-none e) g n =
-      absurd (let y : _≡_ {A = ℕ} 255 4 = sym (ap (λ (x : Handed). x .number) (gives-is e g .numbered)) ∙ n in omega arith)
+flat-room : (letter : ℕ) (s out left : List ℕ) (r : SelAnswer) → Gives (flatOf letter s) out r left
+    → (r .number ≡ 4) ↔ ((bytes : List ℕ) × (flatOf letter s ≡ taken bytes) × (length out < length bytes))
+flat-room letter s out left r g = (
+  flat-four (flatOf letter s) r (not-four (kindOf letter) s) (told (flatOf letter s) g),
+  λ p. ap (λ (x : SelAnswer). x .number) (too-long (p .0) (gives-is (p .1) g) (p .2)),
+)
 
-  flat-room : (kind : Kind) (s : List ℕ) → Gives (flatOf kind s) out r left
-      → (flatNumber r .number ≡ 4) ↔ ((bytes : List ℕ) × (flatOf kind s ≡ taken bytes) × (length out < length bytes))
-  flat-room kind s g = (
-    flat-four (flatOf kind s) (shape kind s) g,
-    λ p. ap (λ (x : Handed). x .number) (flat-needs (p .0) (gives-is (p .1) g) (p .2)),
-  )
-
-flat-text : (s out left : List ℕ) (r : FlatAnswer) → Gives (flatOf Kind.EntryText s) out r left
-    → ((flatNumber r .number ≡ 1) ↔ NotEnough AnswerKind.Entry s)
-    × ((flatNumber r .number ≡ 2) ↔ Unknown AnswerKind.Entry s)
-    × ((flatNumber r .number ≡ 3) ↔ Invalid validChannel AnswerKind.Entry s)
+flat-text : (letter : ℕ) → kindOf letter ≡ Kind.Other Question.EntryText → (s out left : List ℕ) (r : SelAnswer) → Gives (flatOf letter s) out r left
+    → (n : ℕ) → (n ≡ 0 → ⊥) → (n ≡ 4 → ⊥) → (r .number ≡ n) ↔ ((h : Handed) × Row validChannel AnswerKind.Entry s h × (h .number ≡ n))
 unfolding entryTextFlat
-flat-text s out left r g =
-    let rows = answer-rows validChannel AnswerKind.Entry s .rows in
-    let e1 = same (entryHands validChannel s) _ g 1 (λ z. omega arith) (λ z. omega arith) in
-    let e2 = same (entryHands validChannel s) _ g 2 (λ z. omega arith) (λ z. omega arith) in
-    let e3 = same (entryHands validChannel s) _ g 3 (λ z. omega arith) (λ z. omega arith) in (
-      (λ p. rows .one .0 (e1 .0 p), λ p. e1 .1 (rows .one .1 p)),
-      (λ p. rows .two .0 (e2 .0 p), λ p. e2 .1 (rows .two .1 p)),
-      (λ p. rows .three .0 (e3 .0 p), λ p. e3 .1 (rows .three .1 p)),
-    )
+flat-text letter k s out left r g = exactly (answer-rows validChannel AnswerKind.Entry s .rows) _ (gives-is (ap (λ (x : Kind). flatBy x s) k) g)
 
 unwritten : (text out left : List ℕ) (r : Written) → Wrote text out r left → (writtenNumber r .number ≡ 0 → ⊥) → left ≡ out
 unwritten text out left r w n = by (decLe (length text) (length out))
@@ -203,10 +184,16 @@ unwritten text out left r w n = by (decLe (length text) (length out))
 unlisted : (s : List ℕ) (b : ℕ) (old left : List ℕ) (r : Verdict) → Walked s b old r left → (walkNumber r .number ≡ 0 → ⊥) → left ≡ old
 unlisted s b old left r w n = w .leaves ∙ refusals s b old .untouched (λ e. n (ap (λ (v : Verdict). walkNumber v .number) (w .answered) ∙ e))
 
+-- a verdict has the number 0
+walked-zero : (v : Settled) → logNumber (Closing.Walked v) .number ≡ 0
+walked-zero (Settled.Ended read) = refl
+walked-zero (Settled.Missing ask read) = refl
+walked-zero (Settled.Circle read) = refl
+
 module _ (input slots list slotsLeft listLeft : List ℕ) (r : Closing) (l : Logged input slots list r slotsLeft listLeft) (n : logNumber r .number ≡ 0 → ⊥) where
   unread-by : (j : Judged) → judgeInput input ≡ j → (slotsLeft ≡ slots) × (listLeft ≡ list)
-  unfolding closingHands handsBy leftBy
-  unread-by (Judged.Slots k) e = absurd (n (ap (λ (x : Handed). x .number) (l .numbered) ∙ rw e))
+  unfolding closingOf closingBy leftBy
+  unread-by (Judged.Slots k) e = absurd (n (ap (λ (x : Handed). x .number) (l .numbered) ∙ rw e (walked-zero (settledOf (slotsOf input)))))
   unread-by (Judged.BadLine k) e = (l .slots ∙ rw e, l .list ∙ rw e)
   unread-by Judged.TooMany e = (l .slots ∙ rw e, l .list ∙ rw e)
 
@@ -219,15 +206,15 @@ demand-1 =
       flat = flat-rows;
       flatText = flat-text;
       written = room;
-      flatFour = λ kind s out left r. flat-room out left r kind s;
-      flatNeeds = λ bytes out left r g h. flat-needs out left r bytes g (omega arith);
+      flatFour = flat-room;
+      flatNeeds = λ bytes out left r. too-long bytes;
       walked = refusals;
       goodLines = good-lines;
       badLine = bad-line;
       badCarries = bad-carries;
       tooMany = too-many;
       unwritten = unwritten;
-      flatUnwritten = λ question out left r. untouched-else out left r .untouched question;
+      flatUnwritten = λ question out left r. untouched-else question out left r .untouched;
       unlisted = unlisted;
       unread = λ input slots list slotsLeft listLeft r l n. unread-by input slots list slotsLeft listLeft r l n (judgeInput input) refl;
       lengths = decides validChannel;

@@ -324,11 +324,11 @@ reserved s r p l f = (reservationId (le16At s 0), p .decoded ∙ simp (le-ltb (l
 module _ (s : List ℕ) (r : ClearAnswer) (p : Promised AnswerKind.Clear r s) (l : 1 ≤ length s) where
   completed : bits 3 0 (byteAt s 0) ≡ 1 → r ≡ ClearAnswer.Accepted ErasureProgress.Completed
   unfolding parseClear
-  completed b = p .decoded ∙ simp (ne-eqb (length s) 0 (λ e. omega arith), b)
+  completed b = p .decoded ∙ simp (le-ltb (length s) 1 l, b)
 
   in-progress : (bits 3 0 (byteAt s 0) ≡ 1 → ⊥) → r ≡ ClearAnswer.Accepted ErasureProgress.InProgress
   unfolding parseClear
-  in-progress f = p .decoded ∙ simp (ne-eqb (length s) 0 (λ e. omega arith), ne-eqb (bits 3 0 (byteAt s 0)) 1 f)
+  in-progress f = p .decoded ∙ simp (le-ltb (length s) 1 l, ne-eqb (bits 3 0 (byteAt s 0)) 1 f)
 
 pub decoded : Decoded
 decoded =
@@ -353,8 +353,8 @@ decoded =
           dataIs = refl;
         },
       );
-      closedStamped = λ id type time maker. refl;
-      closedPlain = λ id type. refl;
+      openedStamped = λ id type time maker. refl;
+      openedPlain = λ id type. refl;
       getEntry = get-entry;
       part = part;
       noPart = no-part;

@@ -10,6 +10,7 @@ use lib.ListN.{length, drop, getD, take}
 use lib.Seq.{drop-at, take-at}
 use Rattle.field.specs.Bits.{bits}
 use Rattle.field.specs.Choose.{if_then_else_}
+use Rattle.field.proofs.Placed.{placed-front}
 use Rattle.text.specs.Text.{bytes}
 use Rattle.storage.specs.Time.{timeText}
 use Rattle.event_data.specs.DataText.{data2Text, data3Text, dataText, joined, unlessFFh}
@@ -123,7 +124,7 @@ writes =
     record {
       stands = λ text out left r w h.
           let b = le-leb (length text) (length out) h in
-          let l : left ≡ text ++ drop (length text) out = w .leaves ∙ rw b in (
+          let l : left ≡ text ++ drop (length text) out = w .leaves ∙ rw b (placed-front out text) in (
             w .answered ∙ rw b,
             ap (take (length text)) l ∙ take-at text (drop (length text) out) (length text) refl,
             ap (drop (length text)) l ∙ drop-at text (drop (length text) out) (length text) refl,

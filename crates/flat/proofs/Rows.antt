@@ -2,6 +2,7 @@
 use Prim.Native.Nat.{ℕ, _≤_, _<_}
 use mathlib.Core.Path.{_≡_, refl, sym, ap, _∙_}
 use mathlib.Core.List.{List, _++_}
+use mathlib.Core.Logic.{_↔_}
 use native.Mathlib.Decide.{ℕ-discrete}
 use native.Mathlib.Nat.{zero-add}
 use borrow.Author.Tests.{eq-eqb, ne-eqb, le-leb, lt-leb}
@@ -9,6 +10,7 @@ use lib.Dec.{leb}
 use lib.ListN.{length, drop}
 use Rattle.field.specs.Handed.{Handed}
 use Rattle.field.specs.Placed.{placed}
+use Rattle.field.specs.Rows.{Rows}
 use Rattle.field.proofs.Choices.{either}
 use Rattle.connection.specs.Channel.{validChannel}
 use Rattle.answers.specs.Rows.{Row, handsOf}
@@ -52,41 +54,43 @@ module _ {out left : List ℕ} {r : SelAnswer} (flat : List ℕ) (g : Gives (tak
   unfolding placed
   fits h = let b = le-leb (length flat) (length out) h in (g .answered ∙ rw b, g .leaves ∙ rw (b, zero-add))
 
-  too-long : length out < length flat → r ≡ said 4 0 (length flat)
+  pub too-long : length out < length flat → r ≡ said 4 0 (length flat)
   too-long h = g .answered ∙ rw (lt-leb (length flat) (length out) h)
 
   no-other : (n : ℕ) → (n ≡ 0 → ⊥) → (n ≡ 4 → ⊥) → r .number ≡ n → ⊥
   no-other n z f =
       rw (g .answered) (either (λ w. fromWritten w .number ≡ n → ⊥) (leb (length flat) (length out)) _ _ (λ e. z (sym e)) (λ e. f (sym e)))
 
+-- what is decided by a number, of which the rows are known
+module _ {hands : Handed} {Row : Handed → Type 0} (rows : Rows hands Row) (flat : List ℕ) {out left : List ℕ} {r : SelAnswer} (g : Gives (decided hands flat) out r left) where
+  turned : (h : Handed) → Row h → (h .number ≡ 0 → ⊥) → r ≡ refusal h
+  turned h p n = gives-is (ap (λ (x : Handed). decided x flat) (rows .exactly h .1 p) ∙ is-refused h flat n) g .answered
+
+  number : (n : ℕ) → (n ≡ 0 → ⊥) → (n ≡ 4 → ⊥) → r .number ≡ n → Dec (hands .number ≡ 0) → hands .number ≡ n
+  number n z f e (yes t) = absurd (no-other flat (gives-is (is-taken hands flat t) g) n z f e)
+  number n z f e (no t) = ap (λ (x : SelAnswer). x .number) (sym (gives-is (is-refused hands flat t) g .answered)) ∙ e
+
+  pub exactly : (n : ℕ) → (n ≡ 0 → ⊥) → (n ≡ 4 → ⊥) → (r .number ≡ n) ↔ ((h : Handed) × Row h × (h .number ≡ n))
+  exactly n z f = (
+    λ e. (hands, rows .exactly hands .0 refl, number n z f e (ℕ-discrete (hands .number) 0)),
+    λ w. ap (λ (x : SelAnswer). x .number) (turned (w .0) (w .1) (λ q. z (sym (w .2) ∙ q))) ∙ w .2,
+  )
+
 module _ (letter : ℕ) (kind : AnswerKind) (s out left : List ℕ) (r : SelAnswer) where
-  abbrev hands : Handed
-  hands = handsOf validChannel kind s
+  rows : Rows (handsOf validChannel kind s) (Row validChannel kind s)
+  rows = answer-rows validChannel kind s .rows
 
-  abbrev flat : List ℕ
-  flat = decides kind .0 s
-
-  -- what is given is what the row of any number says
-  by-row : (h : Handed) → Row validChannel kind s h → hands ≡ h
-  by-row h = answer-rows validChannel kind s .rows .exactly h .1
-
-  turned : Asked letter kind s out left r → (h : Handed) → Row validChannel kind s h → (h .number ≡ 0 → ⊥) → r ≡ refusal h
-  turned a h p n = gives-is (by-number letter s (a .0) ∙ ap (λ (x : Handed). decided x flat) (by-row h p) ∙ is-refused h flat n) (a .1) .answered
-
-  number : Asked letter kind s out left r → (n : ℕ) → (n ≡ 0 → ⊥) → (n ≡ 4 → ⊥) → r .number ≡ n → Dec (hands .number ≡ 0) → hands .number ≡ n
-  number a n z f e (yes t) = absurd (no-other flat (gives-is (by-number letter s (a .0) ∙ is-taken hands flat t) (a .1)) n z f e)
-  number a n z f e (no t) = ap (λ (x : SelAnswer). x .number) (sym (gives-is (by-number letter s (a .0) ∙ is-refused hands flat t) (a .1) .answered)) ∙ e
+  given : Asked letter kind s out left r → Gives (decided (handsOf validChannel kind s) (decides kind .0 s)) out r left
+  given a = gives-is (by-number letter s (a .0)) (a .1)
 
   pub flat-rows : FlatRows letter kind s out left r
   flat-rows =
       record {
-        refused = turned;
-        exactly = λ a n z f. (
-          λ e. (hands, answer-rows validChannel kind s .rows .exactly hands .0 refl, number a n z f e (ℕ-discrete (hands .number) 0)),
-          λ w. ap (λ (x : SelAnswer). x .number) (turned a (w .0) (w .1) (λ q. z (sym (w .2) ∙ q))) ∙ w .2,
-        );
+        refused = λ a. turned rows _ (given a);
+        exactly = λ a. exactly rows _ (given a);
         accepted = λ a p.
-            let e = by-number letter s (a .0) ∙ is-taken hands flat (ap (λ (x : Handed). x .number) (by-row _ p)) in
+            let flat = decides kind .0 s in
+            let e = by-number letter s (a .0) ∙ is-taken _ flat (ap (λ (x : Handed). x .number) (rows .exactly _ .1 p)) in
             (flat, e, fits flat (gives-is e (a .1)), too-long flat (gives-is e (a .1)));
         untouched = λ a. untouched-else (flatOf letter s) out left r .untouched (a .1);
       }

@@ -7,20 +7,33 @@ use crate::say::up_to;
 // More than the longest flat form has, an event's text of 70 bytes.
 const ROOM: usize = 80;
 
-// The flat bytes in hexadecimal, or a text as it is.
-pub(crate) fn ask(letter: u8, data: &[u8], line: &mut [u8]) -> usize {
+const NO_QUESTION: u32 = 255;
+
+pub(crate) fn ask(letter: u8, data: &[u8]) {
     let mut out = [0xEEu8; ROOM];
     let answer = flat::flat(letter, data, &mut out);
-    if answer.number != 0 {
-        return say_refusal(answer.number, answer.value, answer.length, line);
+    if answer.number == 0 {
+        let text = flat::is_text(flat::kind_of(letter));
+        say_taken(up_to(&out, answer.length), text);
+        return;
     }
-    if answer.length == 0 {
-        return say(b"0", line, 0);
+    if answer.number == NO_QUESTION {
+        say(b"?");
+        return;
     }
-    let next = say(b"0 ", line, 0);
-    let flat = up_to(&out, answer.length);
-    if flat::is_text(flat::kind_of(letter)) {
-        return say(flat, line, next);
+    say_refusal(answer.number, answer.value, answer.length);
+}
+
+// The flat bytes in hexadecimal, or a text as it is.
+fn say_taken(flat: &[u8], text: bool) {
+    say(b"0");
+    if flat.len() == 0 {
+        return;
     }
-    say_bytes(flat, line, next)
+    say(b" ");
+    if text {
+        say(flat);
+        return;
+    }
+    say_bytes(flat);
 }

@@ -7,9 +7,7 @@ mod walks;
 mod words;
 
 use libc::STDIN_FILENO;
-use libc::STDOUT_FILENO;
 use say::say;
-use say::say_byte;
 use say::up_to;
 
 // One place more than the longest question has, a letter, a space and 120,200 digits: a line that fills it is none.
@@ -17,16 +15,21 @@ const LINE: usize = 120203;
 
 const BYTES: usize = 60100;
 
-// More than the longest answer has, a walk with 3,001 places lent.
-const ANSWER: usize = 12100;
-
-// What a line asks about: a letter's kind, or one of four words.
+// What a line asks about: a letter's kind, or one of four words; or it is no question.
 enum Asked {
     Letter(u8),
+    Walk,
     Channel,
     Unit,
     Entry,
     Answer,
+    Nothing,
+}
+
+// What a line asks about, and the place of its digits.
+struct Question {
+    asked: Asked,
+    at: usize,
 }
 
 // Whether to read on, and how much of the next line there is.
@@ -62,10 +65,19 @@ fn decode(digits: &[u8], bytes: &mut [u8]) -> bool {
         if 16 <= low {
             return false;
         }
-        say_byte(16 * high + low, bytes, i);
+        put(bytes, i, 16 * high + low);
         i += 1;
     }
     true
+}
+
+// Puts a byte where there is room, and answers the place after it.
+fn put(out: &mut [u8], at: usize, b: u8) -> usize {
+    if at < out.len() {
+        out[at] = b;
+        return at + 1;
+    }
+    at
 }
 
 fn starts_with(line: &[u8], word: &[u8]) -> bool {
@@ -89,65 +101,81 @@ fn from_place(line: &[u8], at: usize) -> &[u8] {
     &line[..0]
 }
 
-fn by_letter(letter: u8, data: &[u8], answer: &mut [u8]) -> usize {
+fn of_letter(letter: u8) -> Asked {
     if letter == b'w' {
-        return walks::walk(data, answer);
+        return Asked::Walk;
     }
-    flats::ask(letter, data, answer)
+    Asked::Letter(letter)
 }
 
-fn by_asked(asked: Asked, data: &[u8], answer: &mut [u8]) -> usize {
-    match asked {
-        Asked::Letter(letter) => by_letter(letter, data, answer),
-        Asked::Channel => words::channel(data, answer),
-        Asked::Unit => words::unit(data, answer),
-        Asked::Entry => parsers::entry(data, answer),
-        Asked::Answer => parsers::answer(data, answer),
-    }
-}
-
-fn ask(asked: Asked, digits: &[u8], bytes: &mut [u8], answer: &mut [u8]) -> usize {
-    let n = digits.len() / 2;
-    if !decode(digits, bytes) {
-        return say(b"?", answer, 0);
-    }
-    by_asked(asked, up_to(bytes, n), answer)
-}
-
-fn ask_line(line: &[u8], bytes: &mut [u8], answer: &mut [u8]) -> usize {
+fn question_in(line: &[u8]) -> Question {
     if field::byte_at(line, 1) == b' ' {
-        let letter = field::byte_at(line, 0);
-        return ask(Asked::Letter(letter), from_place(line, 2), bytes, answer);
+        return Question {
+            asked: of_letter(field::byte_at(line, 0)),
+            at: 2,
+        };
     }
     if starts_with(line, b"channel ") {
-        return ask(Asked::Channel, from_place(line, 8), bytes, answer);
+        return Question {
+            asked: Asked::Channel,
+            at: 8,
+        };
     }
     if starts_with(line, b"unit ") {
-        return ask(Asked::Unit, from_place(line, 5), bytes, answer);
+        return Question {
+            asked: Asked::Unit,
+            at: 5,
+        };
     }
     if starts_with(line, b"entry ") {
-        return ask(Asked::Entry, from_place(line, 6), bytes, answer);
+        return Question {
+            asked: Asked::Entry,
+            at: 6,
+        };
     }
     if starts_with(line, b"answer ") {
-        return ask(Asked::Answer, from_place(line, 7), bytes, answer);
+        return Question {
+            asked: Asked::Answer,
+            at: 7,
+        };
     }
-    say(b"?", answer, 0)
+    Question {
+        asked: Asked::Nothing,
+        at: 0,
+    }
 }
 
-// Writes an answer's line, in one call.
-fn write_line(answer: &mut [u8], end: usize) {
-    let n = say_byte(b'\n', answer, end);
-    io::write_all(STDOUT_FILENO, up_to(answer, n));
+fn answer_to(asked: Asked, data: &[u8]) {
+    match asked {
+        Asked::Letter(letter) => flats::ask(letter, data),
+        Asked::Walk => walks::walk(data),
+        Asked::Channel => words::channel(data),
+        Asked::Unit => words::unit(data),
+        Asked::Entry => parsers::entry(data),
+        Asked::Answer => parsers::answer(data),
+        Asked::Nothing => say(b"?"),
+    }
+}
+
+fn answer_line(line: &[u8], bytes: &mut [u8]) {
+    let question = question_in(line);
+    let asked = question.asked;
+    let digits = from_place(line, question.at);
+    let n = digits.len() / 2;
+    if decode(digits, bytes) {
+        answer_to(asked, up_to(bytes, n));
+        return;
+    }
+    say(b"?");
 }
 
 // Takes one byte of the input: a newline has the line before it answered. Hands back how much of a line there is then.
 fn take(c: u8, line: &mut [u8], filled: usize, bytes: &mut [u8]) -> usize {
     if c != b'\n' {
-        return say_byte(c, line, filled);
+        return put(line, filled, c);
     }
-    let mut answer = [0u8; ANSWER];
-    let end = ask_line(up_to(line, filled), bytes, &mut answer);
-    write_line(&mut answer, end);
+    answer_line(up_to(line, filled), bytes);
+    say(b"\n");
     0
 }
 
@@ -166,12 +194,12 @@ fn read_some(line: &mut [u8], filled: usize, bytes: &mut [u8]) -> Step {
     let mut chunk = io::large_buffer();
     let got = libc::read(STDIN_FILENO, &mut chunk);
     if got < 0 {
-        io::write_all(STDOUT_FILENO, b"?\n");
+        say(b"?\n");
         return Step::Done;
     }
     if got == 0 {
         if 0 < filled {
-            io::write_all(STDOUT_FILENO, b"?\n");
+            say(b"?\n");
         }
         return Step::Done;
     }

@@ -9,45 +9,45 @@ use field::le32_at;
 
 const MOST_PLACES: usize = 3001;
 
-fn say_places(list: &[u16], line: &mut [u8], at: usize) -> usize {
-    let mut next = at;
+fn say_places(list: &[u16]) {
     let mut i = 0;
     while i < list.len() {
-        next = say_le16(list[i], line, next);
+        say_le16(list[i]);
         i += 1;
     }
-    next
 }
 
-fn say_walk(verdict: u8, ask: u16, read: usize, list: &[u16], line: &mut [u8]) -> usize {
-    let next = say(b"0 ", line, 0);
-    let next = say_hex(verdict, line, next);
-    let next = say_le16(ask, line, next);
-    let next = say_le16((read % 65536) as u16, line, next);
-    say_places(list, line, next)
+fn say_walk(verdict: u8, ask: u16, read: usize, list: &[u16]) {
+    say(b"0 ");
+    say_hex(verdict);
+    say_le16(ask);
+    say_le16((read % 65536) as u16);
+    say_places(list);
 }
 
-fn walk_into(slots: &[u8], budget: usize, list: &mut [u16], line: &mut [u8]) -> usize {
+fn walk_into(slots: &[u8], budget: usize, list: &mut [u16]) {
     match capture::walk(slots, budget, list) {
-        Verdict::Ended { read } => say_walk(0, 0, read, list, line),
-        Verdict::Missing { ask, read } => say_walk(1, ask.value(), read, list, line),
-        Verdict::Spent { ask, read } => say_walk(2, ask.value(), read, list, line),
-        Verdict::Circle { read } => say_walk(3, 0, read, list, line),
-        Verdict::NoRoom(n) => say_refusal(4, 0, n, line),
-        Verdict::BadCapture => say_refusal(5, 0, 0, line),
+        Verdict::Ended { read } => say_walk(0, 0, read, list),
+        Verdict::Missing { ask, read } => say_walk(1, ask.value(), read, list),
+        Verdict::Spent { ask, read } => say_walk(2, ask.value(), read, list),
+        Verdict::Circle { read } => say_walk(3, 0, read, list),
+        Verdict::NoRoom(n) => say_refusal(4, 0, n),
+        Verdict::BadCapture => say_refusal(5, 0, 0),
     }
 }
 
-pub(crate) fn walk(data: &[u8], line: &mut [u8]) -> usize {
+pub(crate) fn walk(data: &[u8]) {
     if data.len() < 6 {
-        return say(b"?", line, 0);
+        say(b"?");
+        return;
     }
     let budget = le32_at(data, 0) as usize;
     let places = le16_at(data, 4) as usize;
     if MOST_PLACES < places {
-        return say(b"?", line, 0);
+        say(b"?");
+        return;
     }
     // What no walk lists, so that places that were touched show.
     let mut list = [0xEEEEu16; MOST_PLACES];
-    walk_into(&data[6..], budget, &mut list[..places], line)
+    walk_into(&data[6..], budget, &mut list[..places]);
 }

@@ -7,39 +7,40 @@ use connection::NewChannel;
 use connection::NewUnit;
 use field::byte_at;
 
-fn say_name(c: Channel, line: &mut [u8]) -> usize {
+fn say_name(c: Channel) {
     match c {
-        Channel::Primary => say(b"Primary ", line, 0),
-        Channel::Numbered(_) => say(b"Numbered ", line, 0),
-        Channel::System => say(b"System ", line, 0),
-        Channel::Current => say(b"Current ", line, 0),
+        Channel::Primary => say(b"Primary "),
+        Channel::Numbered(_) => say(b"Numbered "),
+        Channel::System => say(b"System "),
+        Channel::Current => say(b"Current "),
     }
 }
 
-pub(crate) fn channel(data: &[u8], line: &mut [u8]) -> usize {
+pub(crate) fn channel(data: &[u8]) {
     if data.len() != 1 {
-        return say(b"?", line, 0);
+        say(b"?");
+        return;
     }
     match Channel::new(byte_at(data, 0)) {
         NewChannel::Valid(c) => {
-            let next = say_name(c, line);
-            say_hex(c.value(), line, next)
+            say_name(c);
+            say_hex(c.value());
         }
-        NewChannel::Invalid(_) => say(b"none", line, 0),
+        NewChannel::Invalid(_) => say(b"none"),
     }
 }
 
 // The unit by the low bits, then the unit where higher bits are turned away.
-pub(crate) fn unit(data: &[u8], line: &mut [u8]) -> usize {
+pub(crate) fn unit(data: &[u8]) {
     if data.len() != 1 {
-        return say(b"?", line, 0);
+        say(b"?");
+        return;
     }
     let value = byte_at(data, 0);
-    let low = LogicalUnit::from_low_bits(value);
-    let next = say_hex(low.value(), line, 0);
-    let next = say(b" ", line, next);
+    say_hex(LogicalUnit::from_low_bits(value).value());
+    say(b" ");
     match LogicalUnit::new(value) {
-        NewUnit::Valid(u) => say_hex(u.value(), line, next),
-        NewUnit::Invalid => say(b"none", line, next),
+        NewUnit::Valid(u) => say_hex(u.value()),
+        NewUnit::Invalid => say(b"none"),
     }
 }

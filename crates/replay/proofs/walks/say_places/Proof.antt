@@ -2,15 +2,14 @@
 use borrow.Author.Needs.{needs}
 use Prim.Native.Nat.{_≤_, _-_}
 use lib.ListN.{length}
-use mathlib.Core.Path.{_≡_}
 use Rattle.replay.proofs.walks.say_places.Statement.{statement}
 use Rattle.replay.proofs.walks.say_places.Tie as tie
 
 abbrev Inv-loop : tie.InvT-loop
-Inv-loop list line₀ at next₀ i₀ line next i = (i ≤ length list) × (length line ≡ length line₀)
+Inv-loop list i₀ i = i ≤ length list
 
 abbrev μ-loop : tie.MeasureT-loop
-μ-loop list line₀ at next₀ i₀ line next i = length list - i
+μ-loop list i₀ i = length list - i
 
 pub say-places-spec : {M : Type 1} → statement M
 say-places-spec =
@@ -22,7 +21,6 @@ say-places-spec =
     (λ c. search needs)
     (λ c. search needs)
     (λ c κs. search needs)
-    (λ c. search needs)
     (λ c. search needs)
     (λ c. search needs)
     (λ c. search needs)

@@ -44,25 +44,25 @@ fills {a} {b} {c} {store} {starts} {lengths} e p =
 
 -- a channel is told by its number, and so is a number that is none
 module _ (n : ℕ) {a : NewChannel} (p : Answers a (channelOf validChannel n) channelNumberOf (channelHands validChannel n)) where
-  pub channel-is : {channel : Channel} {v : ℕ} → a ≡ NewChannel.Valid channel → v ≡ channelNumber channel → said 0 v 0 ≡ refusal (channelHands validChannel n)
+  pub channel-is : {channel : Channel} {v : ℕ} → a ≡ NewChannel.Valid channel → v ≡ channelNumber channel → said 0 v ≡ refusal (channelHands validChannel n)
   channel-is e i = rw i (ap refusal (ap channelNumberOf (sym e) ∙ p .numbered))
 
-  pub no-channel : {k : ℕ} → a ≡ NewChannel.Invalid k → said 3 k 0 ≡ refusal (channelHands validChannel n)
+  pub no-channel : {k : ℕ} → a ≡ NewChannel.Invalid k → said 3 k ≡ refusal (channelHands validChannel n)
   no-channel e = ap refusal (ap channelNumberOf (sym e) ∙ p .numbered)
 
 module _ (n : ℕ) {a : NewUnit} (p : a ≡ unitNamed n) where
-  pub unit-is : {unit : LogicalUnit} {v : ℕ} → a ≡ NewUnit.Valid unit → v ≡ unitNumber unit → said 0 v 0 ≡ refusal (unitHands n)
+  pub unit-is : {unit : LogicalUnit} {v : ℕ} → a ≡ NewUnit.Valid unit → v ≡ unitNumber unit → said 0 v ≡ refusal (unitHands n)
   unfolding unitHands
   unit-is {unit} {v} e i = by (decLe n 3)
     where
-      by : Dec (n ≤ 3) → said 0 v 0 ≡ refusal (unitHands n)
+      by : Dec (n ≤ 3) → said 0 v ≡ refusal (unitHands n)
       by (yes h) = rw (i, unit-back .back n unit (sym p ∙ e), le-leb n 3 h)
       by (no h) = clash (cc (unit-back .turnedAway n (omega arith)))
 
-  pub no-unit : a ≡ NewUnit.Invalid → said 255 0 0 ≡ refusal (unitHands n)
+  pub no-unit : a ≡ NewUnit.Invalid → said 255 0 ≡ refusal (unitHands n)
   unfolding unitHands
   no-unit e = by (decLe n 3)
     where
-      by : Dec (n ≤ 3) → said 255 0 0 ≡ refusal (unitHands n)
+      by : Dec (n ≤ 3) → said 255 0 ≡ refusal (unitHands n)
       by (yes h) = clash (cc (unit-back .taken n h))
       by (no h) = rw (lt-leb n 3 (omega arith))

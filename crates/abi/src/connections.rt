@@ -18,10 +18,9 @@ pub extern "C" fn sel_channel(number: u8) -> SelAnswer
     match Channel::new(number) {
         NewChannel::Valid(channel) => SelAnswer {
             number: 0,
-            value: channel.value() as u32,
-            length: 0,
+            value: channel.value() as usize,
         },
-        NewChannel::Invalid(n) => refused(3, n as u32),
+        NewChannel::Invalid(n) => refused(3, n as usize),
     }
 }
 
@@ -32,8 +31,7 @@ pub extern "C" fn sel_unit(number: u8) -> SelAnswer
     match LogicalUnit::new(number) {
         NewUnit::Valid(unit) => SelAnswer {
             number: 0,
-            value: unit.value() as u32,
-            length: 0,
+            value: unit.value() as usize,
         },
         NewUnit::Invalid => no_question(),
     }

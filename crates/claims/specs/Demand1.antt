@@ -81,7 +81,7 @@ pub record Demand1 : Type 0 where
   pub flatFour : (letter : ℕ) (s out left : List ℕ) (r : SelAnswer) → Gives (flatOf letter s) out r left
       → (r .number ≡ 4) ↔ ((bytes : List ℕ) × (flatOf letter s ≡ taken bytes) × (length out < length bytes))
   pub flatNeeds : (bytes out left : List ℕ) (r : SelAnswer) → Gives (taken bytes) out r left → length out < length bytes
-      → r ≡ said 4 0 (length bytes)
+      → r ≡ said 4 (length bytes)
   -- rows 4 and 5 of the walk
   pub walked : (s : List ℕ) (b : ℕ) (old : List ℕ) → Refusals s b old
   -- row 0 of a capture as text: accepted, with the number of its lines, exactly if there are so many, and all are good

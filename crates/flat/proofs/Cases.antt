@@ -99,8 +99,8 @@ requests = refl
 
 -- what is answered and left: with room, without it, refused
 room :
-    (flatAnswer (taken (1 ∷ 2 ∷ [])) (7 ∷ 7 ∷ 7 ∷ []) ≡ said 0 0 2) × (flatLeaves (taken (1 ∷ 2 ∷ [])) (7 ∷ 7 ∷ 7 ∷ []) ≡ 1 ∷ 2 ∷ 7 ∷ [])
-    × (flatAnswer (taken (1 ∷ 2 ∷ [])) (7 ∷ []) ≡ said 4 0 2) × (flatLeaves (taken (1 ∷ 2 ∷ [])) (7 ∷ []) ≡ 7 ∷ [])
-    × (flatAnswer (refused (handed 3 (12 ∷ []))) (7 ∷ []) ≡ said 3 12 0)
+    (flatAnswer (taken (1 ∷ 2 ∷ [])) (7 ∷ 7 ∷ 7 ∷ []) ≡ said 0 2) × (flatLeaves (taken (1 ∷ 2 ∷ [])) (7 ∷ 7 ∷ 7 ∷ []) ≡ 1 ∷ 2 ∷ 7 ∷ [])
+    × (flatAnswer (taken (1 ∷ 2 ∷ [])) (7 ∷ []) ≡ said 4 2) × (flatLeaves (taken (1 ∷ 2 ∷ [])) (7 ∷ []) ≡ 7 ∷ [])
+    × (flatAnswer (refused (handed 3 (12 ∷ []))) (7 ∷ []) ≡ said 3 12)
 unfolding placed
 room = (refl, refl, refl, refl, refl)

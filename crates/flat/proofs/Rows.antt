@@ -50,11 +50,11 @@ is-taken h flat e = rw (eq-eqb (h .number) 0 e)
 
 -- flat bytes are written where there is room, and else 4 is given: so no other number is
 module _ {out left : List ℕ} {r : SelAnswer} (flat : List ℕ) (g : Gives (taken flat) out r left) where
-  fits : length flat ≤ length out → (r ≡ said 0 0 (length flat)) × (left ≡ flat ++ drop (length flat) out)
+  fits : length flat ≤ length out → (r ≡ said 0 (length flat)) × (left ≡ flat ++ drop (length flat) out)
   unfolding placed
   fits h = let b = le-leb (length flat) (length out) h in (g .answered ∙ rw b, g .leaves ∙ rw (b, zero-add))
 
-  pub too-long : length out < length flat → r ≡ said 4 0 (length flat)
+  pub too-long : length out < length flat → r ≡ said 4 (length flat)
   too-long h = g .answered ∙ rw (lt-leb (length flat) (length out) h)
 
   no-other : (n : ℕ) → (n ≡ 0 → ⊥) → (n ≡ 4 → ⊥) → r .number ≡ n → ⊥

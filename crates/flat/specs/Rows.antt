@@ -29,7 +29,7 @@ pub record FlatRows (letter : ℕ) (kind : AnswerKind) (s out left : List ℕ) (
   -- any other answer is decoded: its flat bytes stand at the output's start and the rest is as it was; or there is no room for them
   pub accepted : Asked letter kind s out left r → Row validChannel kind s (handed 0 [])
       → (flat : List ℕ) × (flatOf letter s ≡ taken flat)
-      × (length flat ≤ length out → (r ≡ said 0 0 (length flat)) × (left ≡ flat ++ drop (length flat) out))
-      × (length out < length flat → r ≡ said 4 0 (length flat))
+      × (length flat ≤ length out → (r ≡ said 0 (length flat)) × (left ≡ flat ++ drop (length flat) out))
+      × (length out < length flat → r ≡ said 4 (length flat))
   -- whatever number but 0 is given, the output is as it was
   pub untouched : Asked letter kind s out left r → (r .number ≡ 0 → ⊥) → left ≡ out

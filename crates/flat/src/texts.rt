@@ -22,7 +22,7 @@ pub(crate) fn entry_text(data: &[u8], out: &mut [u8]) -> SelAnswer
             let w = entry.event_description(out);
             of_written(w)
         }
-        EntryAnswer::Refused(why) => refused(why.number() as u32, why.value() as u32),
+        EntryAnswer::Refused(why) => refused(why.number() as u32, why.value() as usize),
     }
 }
 

@@ -5,6 +5,7 @@ use mathlib.Core.List.{List}
 use native.Mathlib.Nat.{zero-add}
 use lib.ListN.{length, drop}
 use lib.Seq.{drop-at}
+use Rattle.field.specs.Handed.{valueOf}
 use Rattle.field.specs.Placed.{placed}
 use Rattle.flat_form.specs.Form.{Flat}
 use Rattle.flat_form.specs.Untouched.{OneAnswer, Untouched}
@@ -17,11 +18,11 @@ module _ {f : Flat} {out left : List ℕ} where
   as-it-was _ (short e h l) n = l
   as-it-was _ (turned e l) n = l
 
-  rest : (r : SelAnswer) → Told f out left r → r .number ≡ 0 → drop (r .length) left ≡ drop (r .length) out
+  rest : (r : SelAnswer) → Told f out left r → r .number ≡ 0 → drop (r .value) left ≡ drop (r .value) out
   unfolding placed
   rest _ (wrote {t} e p) z = ap (drop (length t)) (p .holds) ∙ drop-at t (drop (0 + length t) out) (length t) refl ∙ rw zero-add
   rest _ (short {t} e h l) z = ap (drop (length t)) l
-  rest _ (turned e l) z = ap (drop 0) l
+  rest _ (turned {h} e l) z = ap (drop (valueOf h)) l
 
 pub untouched-else : (f : Flat) (out left : List ℕ) (r : SelAnswer) → Untouched f out left r
 untouched-else f out left r = record { untouched = λ g n. as-it-was r (told f g) n; behind = λ g z. rest r (told f g) z }

@@ -9,7 +9,7 @@ use Rattle.flat_form.specs.declared.SelAnswer.{SelAnswer}
 
 pub record Untouched (flat : Flat) (out left : List ℕ) (r : SelAnswer) : Type 0 where
   pub untouched : Gives flat out r left → (r .number ≡ 0 → ⊥) → left ≡ out
-  pub behind : Gives flat out r left → r .number ≡ 0 → drop (r .length) left ≡ drop (r .length) out
+  pub behind : Gives flat out r left → r .number ≡ 0 → drop (r .value) left ≡ drop (r .value) out
 
 pub record OneAnswer (flat : Flat) (out : List ℕ) : Type 0 where
   pub one : (r r′ : SelAnswer) (left left′ : List ℕ) → Gives flat out r left → Gives flat out r′ left′ → (r ≡ r′) × (left ≡ left′)

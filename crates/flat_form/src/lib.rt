@@ -7,49 +7,42 @@ ghost use Rattle.field.specs.Bits.{leBytes};
 ghost use Rattle.text.specs.Text.{Put};
 ghost use Rattle.flat_form.specs.Form.{Gives, fromWritten, said, taken};
 
-// What the writer of a flat form answers: the number; what a refusal carries; the bytes written, or needed where the number is 4.
+// What the writer of a flat form answers: the number, and what it carries: 0 the bytes written, 4 those needed, a refusal its value.
 #[repr(C)]
 pub struct SelAnswer {
     pub number: u32,
-    pub value: u32,
-    pub length: usize,
+    pub value: usize,
 }
 
 // That many flat bytes were written.
 pub fn written(length: usize) -> SelAnswer
-    ensures { λ r. ⌜ r ≡ said 0 0 length ⌝ }
+    ensures { λ r. ⌜ r ≡ said 0 length ⌝ }
 {
     SelAnswer {
         number: 0,
-        value: 0,
-        length,
+        value: length,
     }
 }
 
 // That many are needed; nothing was written.
 pub fn no_room(length: usize) -> SelAnswer
-    ensures { λ r. ⌜ r ≡ said 4 0 length ⌝ }
+    ensures { λ r. ⌜ r ≡ said 4 length ⌝ }
 {
     SelAnswer {
         number: 4,
-        value: 0,
-        length,
+        value: length,
     }
 }
 
-pub fn refused(number: u32, value: u32) -> SelAnswer
-    ensures { λ r. ⌜ r ≡ said number value 0 ⌝ }
+pub fn refused(number: u32, value: usize) -> SelAnswer
+    ensures { λ r. ⌜ r ≡ said number value ⌝ }
 {
-    SelAnswer {
-        number,
-        value,
-        length: 0,
-    }
+    SelAnswer { number, value }
 }
 
 // The bytes are no question of the kind that was asked.
 pub fn no_question() -> SelAnswer
-    ensures { λ r. ⌜ r ≡ said 255 0 0 ⌝ }
+    ensures { λ r. ⌜ r ≡ said 255 0 ⌝ }
 {
     refused(255, 0)
 }

@@ -14,14 +14,14 @@ pub(crate) fn ask(letter: u8, data: &[u8]) {
     let answer = flat::flat(letter, data, &mut out);
     if answer.number == 0 {
         let text = flat::is_text(flat::kind_of(letter));
-        say_taken(up_to(&out, answer.length), text);
+        say_taken(up_to(&out, answer.value), text);
         return;
     }
     if answer.number == NO_QUESTION {
         say(b"?");
         return;
     }
-    say_refusal(answer.number, answer.value, answer.length);
+    say_refusal(answer.number, answer.value);
 }
 
 // The flat bytes in hexadecimal, or a text as it is.

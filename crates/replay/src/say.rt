@@ -43,13 +43,13 @@ pub(crate) fn say_bytes(s: &[u8]) {
 }
 
 // A refusal: 4 with the length needed, in four digits; 2 and 3 with a value of two; any other number alone.
-pub(crate) fn say_refusal(number: u32, value: u32, length: usize) {
+pub(crate) fn say_refusal(number: u32, value: usize) {
     let mut digits = [0u8; 10];
     let n = text::put_decimal(number, &mut digits, 0);
     say(up_to(&digits, n));
     if number == 4 {
         say(b" ");
-        say_hex4((length % 65536) as u16);
+        say_hex4((value % 65536) as u16);
     }
     if carries_a_byte(number) {
         say(b" ");

@@ -31,8 +31,8 @@ fn walk_into(slots: &[u8], budget: usize, list: &mut [u16]) {
         Verdict::Missing { ask, read } => say_walk(1, ask.value(), read, list),
         Verdict::Spent { ask, read } => say_walk(2, ask.value(), read, list),
         Verdict::Circle { read } => say_walk(3, 0, read, list),
-        Verdict::NoRoom(n) => say_refusal(4, 0, n),
-        Verdict::BadCapture => say_refusal(5, 0, 0),
+        Verdict::NoRoom(n) => say_refusal(4, n),
+        Verdict::BadCapture => say_refusal(5, 0),
     }
 }
 

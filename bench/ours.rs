@@ -10,8 +10,7 @@ use crate::Room;
 #[repr(C)]
 pub struct Answer {
     number: u32,
-    value: u32,
-    length: usize,
+    value: usize,
 }
 
 #[repr(C)]
@@ -149,8 +148,8 @@ calls! {
 
 fn refused_or(answer: Answer, room: &Room, shown: impl Fn(&[u8]) -> String) -> String {
     match answer.number {
-        0 if answer.length == 0 => "0".into(),
-        0 => format!("0 {}", shown(&room.out[..answer.length])),
+        0 if answer.value == 0 => "0".into(),
+        0 => format!("0 {}", shown(&room.out[..answer.value])),
         1 => "1".into(),
         number => format!("{number} {:02X}", answer.value),
     }

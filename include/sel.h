@@ -19,13 +19,11 @@ extern "C" {
 #endif
 
 /* number: as above.
- * value:  the record type where the number is 2, the channel where it is 3; of sel_channel and sel_unit the number asked, where that is accepted;
- *         else 0.
- * length: the bytes written where the number is 0, the length needed where it is 4; else 0. */
+ * value:  what it carries: the bytes written where the number is 0, or of sel_channel and sel_unit the number asked; the record type where it
+ *         is 2, the channel where it is 3, the length needed where it is 4; else 0. */
 typedef struct SelAnswer {
     uint32_t number;
-    uint32_t value;
-    size_t length;
+    size_t value;
 } SelAnswer;
 
 /* The most bytes that sel_entry, sel_get_entry and sel_allocation write, and sel_decode where it writes no text. */
@@ -52,7 +50,7 @@ SelAnswer sel_allocation(const uint8_t *data, size_t data_length, uint8_t *out, 
  *   e  a record: sel_entry
  *   y  a record: the text of its event, empty for an OEM record; refused as by sel_entry
  *   g  the answer to Get SEL Entry: sel_get_entry
- *   p  the same answer: its sixteen record bytes; none under 18 bytes, which is accepted with length 0
+ *   p  the same answer: its sixteen record bytes; none under 18 bytes, which is accepted with 0 bytes
  *   i  the answer to Get SEL Info: major, minor, entries (2), free bytes (2), last add (4), last delete (4), overflow (0, 1), the mask of the
  *      supported commands (8 Delete, 4 Partial Add, 2 Reserve, 1 Get Allocation Info), their count; 1 unless it has exactly 14 bytes
  *   a  the answer to Get SEL Allocation Info: sel_allocation
@@ -81,7 +79,7 @@ size_t sel_bytes_that_count(uint8_t kind);
 #define SEL_EVENT_TEXT 70
 
 /* Writes the text of an event, of at most SEL_EVENT_TEXT (70) bytes, all printable ASCII. Of the event type bit 7 does not count, of the offset
- * bits 7 to 4. An event that has no text is accepted with length 0. 4 where out is shorter than the text. */
+ * bits 7 to 4. An event that has no text is accepted with 0 bytes. 4 where out is shorter than the text. */
 SelAnswer sel_event_text(uint8_t event_type, uint8_t sensor_type, uint8_t offset, uint8_t *out, size_t out_length);
 
 /* What sel_texts fills: bytes, and places of each of its two tables. */
@@ -90,7 +88,7 @@ SelAnswer sel_event_text(uint8_t event_type, uint8_t sensor_type, uint8_t offset
 
 /* Fills a store and its tables, which then hold every event's text; a place of an event without text has start 0 and length 0. It is worth it where
  * many texts are written.
- * The length of an accepted answer is SEL_STORE. 4 with the length needed of the first slice that is too short; then none is written. */
+ * Accepted with SEL_STORE bytes. 4 with the length needed of the first slice that is too short; then none is written. */
 SelAnswer sel_texts(uint8_t *store, size_t store_length, uint16_t *starts, size_t starts_length, uint8_t *lengths, size_t lengths_length);
 
 /* Writes the text of an event out of a lent store. Out of what sel_texts filled it does what sel_event_text does, whatever stands behind the first
@@ -118,7 +116,7 @@ SelAnswer sel_time_text(uint32_t time, uint8_t *out, size_t out_length);
 #define SEL_REQUEST 6
 
 /* Writes the payload of a request, of at most SEL_REQUEST (6) bytes. A reservation of 0 is none.
- *   40h Get SEL Info, 41h Get SEL Allocation Info, 42h Reserve SEL: length 0; reservation and argument are not looked at
+ *   40h Get SEL Info, 41h Get SEL Allocation Info, 42h Reserve SEL: 0 bytes; reservation and argument are not looked at
  *   43h Get SEL Entry: reservation (2), the argument as record id (2), 00h, FFh
  *   47h Clear SEL: reservation (2), `CLR`, AAh; the argument is 00AAh to erase, or 0000h to ask for the status, and then the last byte is 00h
  * 255 for any other command, and for any other argument of 47h; then 4. */

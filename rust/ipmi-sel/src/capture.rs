@@ -60,7 +60,7 @@ pub fn find(slots: &[u8], id: RecordId) -> Option<usize> {
 
 /// The record's sixteen bytes in a get-entry answer; of an answer under 18 bytes an empty part.
 pub fn record_bytes(answer: &[u8]) -> &[u8] {
-    let part = ffi::decode(b'p', answer, &mut [0; 16]).length;
+    let part = ffi::decode(b'p', answer, &mut [0; 16]).value;
     answer.get(2..2 + part).unwrap_or(&[])
 }
 

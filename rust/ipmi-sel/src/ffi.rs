@@ -4,8 +4,7 @@
 #[repr(C)]
 pub(crate) struct Answer {
     pub number: u32,
-    pub value: u32,
-    pub length: usize,
+    pub value: usize,
 }
 
 #[repr(C)]

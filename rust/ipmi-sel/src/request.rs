@@ -17,7 +17,7 @@ impl Request {
     pub(crate) fn new(command: u8, reservation_id: Option<NonZeroU16>, argument: u16) -> Self {
         let mut bytes = [0; MOST];
         let answer = ffi::request(command, reservation_id.map_or(0, NonZeroU16::get), argument, &mut bytes);
-        Self { command, bytes, length: answer.length.min(MOST) }
+        Self { command, bytes, length: answer.value.min(MOST) }
     }
 
     /// The number of the command.

@@ -33,7 +33,7 @@ fn texts() -> &'static Texts {
 }
 
 fn written(f: &mut fmt::Formatter<'_>, answer: Answer, room: &[u8]) -> fmt::Result {
-    let text = room.get(..answer.length).filter(|_| answer.number == 0).ok_or(fmt::Error)?;
+    let text = room.get(..answer.value).filter(|_| answer.number == 0).ok_or(fmt::Error)?;
     f.write_str(str::from_utf8(text).map_err(|_| fmt::Error)?)
 }
 

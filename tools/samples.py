@@ -259,10 +259,10 @@ def outcomes(command):
 
 def difference(must, came):
     """What is not as it must be; None where all is. Where no words must be said, none may be."""
-    if came[1] != must[1]:
-        return f"the status must be {must[1]}, is {came[1]}, and {came[2]!r} is said"
     if must[0] is not None and came[0] != must[0]:
         return first_difference(must[0], came[0])
+    if came[1] != must[1]:
+        return f"the status must be {must[1]}, is {came[1]}, and {came[2]!r} is said"
     if must[2] not in came[2] or bool(must[2]) != bool(came[2]):
         return f"{must[2]!r} must be said, is {came[2]!r}"
 

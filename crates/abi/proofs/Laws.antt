@@ -1,6 +1,6 @@
 -- From what the crates below promise to the numbers handed back. Assumes nothing.
 use Prim.Native.Nat.{ℕ, _≤_}
-use mathlib.Core.Path.{_≡_, refl, sym, ap, subst, _∙_}
+use mathlib.Core.Path.{_≡_, sym, ap, subst, _∙_}
 use mathlib.Core.List.{List}
 use native.Mathlib.Decide.{decLe}
 use native.Mathlib.Omega.{arith}
@@ -15,15 +15,13 @@ use Rattle.connection.specs.declared.LogicalUnit.{LogicalUnit}
 use Rattle.connection.specs.declared.NewChannel.{NewChannel}
 use Rattle.connection.specs.declared.NewUnit.{NewUnit}
 use Rattle.connection.proofs.Back.{unit-back}
+use Rattle.capture.proofs.Clash.{clash}
 use Rattle.event_offset.specs.Fills.{Fills}
 use Rattle.flat_form.specs.Form.{Gives, fromWritten, refusal, said, taken}
 use Rattle.flat_form.specs.declared.SelAnswer.{SelAnswer}
 use Rattle.flat_form.proofs.Laws.{gives-is, gives-written}
 use Rattle.abi.specs.Filled.{Filled}
 use Rattle.abi.specs.Units.{unitHands}
-
-clash : {A : Type 0} → _≡_ {A = ℕ} 0 1 → A
-clash e = absurd (omega (arith, e))
 
 -- a text was written, and it is that of its equal
 pub gives-text : {text t out left : List ℕ} {w : Written} {r : SelAnswer} → text ≡ t → r ≡ fromWritten w → Wrote text out w left → Gives (taken t) out r left

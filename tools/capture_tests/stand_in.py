@@ -79,6 +79,7 @@ class Room:
         self.folder = tempfile.TemporaryDirectory()
         self.path = pathlib.Path(self.folder.name)
         self.file, self.notes = self.path / "capture.txt", self.path / "capture.txt.info"
+        self.environment = {**os.environ, "PATH": f"{self.path}:{os.environ['PATH']}"}
         (self.path / "ipmitool").write_text(STAND_IN)
         (self.path / "ipmitool").chmod(0o755)
         if not sessions:
@@ -108,8 +109,7 @@ class Room:
 
     @contextlib.contextmanager
     def started(self, *options, before=(), **more):
-        environment = {**os.environ, "PATH": f"{self.path}:{os.environ['PATH']}"}
-        with subprocess.Popen([CAPTURE, "live", *before, self.file, *options], env=environment, stdin=subprocess.DEVNULL, stdout=subprocess.PIPE,
+        with subprocess.Popen([CAPTURE, "live", *before, self.file, *options], env=self.environment, stdin=subprocess.DEVNULL, stdout=subprocess.PIPE,
                               start_new_session=True, **{"stderr": subprocess.PIPE, **more}) as process:
             try:
                 yield process

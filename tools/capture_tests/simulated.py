@@ -446,7 +446,7 @@ def a_log_that_is_erased_and_filled_anew_while_it_is_read():
     with Proxy(it, erase) as proxy:
         status, said, verdict = captured_here(it, "during.txt", *proxy.ipmitool)
     expect(erased and (status, verdict) == (1, None) and "the log was erased while it was read" in said, status, verdict, said)
-    same((it.path / "during.txt.rest").read_text().count("\n"), 8)
+    same((it.path / "during.txt.rest").read_text().count("\n"), 5)
 
 
 @test

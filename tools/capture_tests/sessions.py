@@ -24,7 +24,7 @@ BREAKS = {  # how a session breaks; asked alone, the controller answers
     "words on standard error": "[ $mode = raw ] || echo '?' >&2",
     "a line that is not ended": "[ $mode = raw ] || printf x",
     "an older mark": "[ $mode = raw ] || echo 'Given netfn \"capture-1\" is invalid.' >&2",
-    "a mark of its own": "[ $mode = raw ] || echo 'Given netfn \"capture-3\" is invalid.' >&2",
+    "a mark of its own": "[ $mode = raw ] || echo 'Given netfn \"capture-4\" is invalid.' >&2",
     "no answer": "[ $mode = raw ] || exit 1",
     "no byte": "[ $mode = raw ] || { echo; exit 1; }",
     "no completion code": "[ $mode = raw ] || { echo 'Unable to send RAW command (channel=0x0 netfn=0xa lun=0x0 cmd=0x43)' >&2; exit 1; }",
@@ -51,6 +51,17 @@ def a_broken_session(case):
 @test
 def sessions_that_break():
     at_once(a_broken_session, BREAKS.items())
+
+
+@test
+def words_before_a_session():
+    """Words on the way in, as ipmitool has them where a controller does not tell its cipher suites, are no answer and break nothing."""
+    script, text = chain(1, 2, 3)
+    with Room(script) as room:
+        path = room.path / "ipmitool"
+        path.write_text(path.read_text().replace("mode=$1\n", "mode=$1\necho 'Unable to Get Channel Cipher Suites' >&2\n"))
+        room.ends({}, 0, "3 slots: ended", text, "walk=ended read=3")
+        same(room.runs(), ["raw", "exec"])
 
 
 @test

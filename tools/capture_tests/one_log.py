@@ -173,6 +173,18 @@ def a_log_that_is_erased_while_it_is_read():
 
 
 @test
+def each_look_is_noted():
+    """At each hundredth ask, on the disk, so that it outlives a kill."""
+    script, text = chain(*range(1, 131))
+    with Room({**script, 121: ["exec sleep 60"], "info": [info(), info(6, 1001)]}) as room:
+        with room.started() as process:
+            room.wait_for(121)
+            process.kill()
+            process.wait()
+        same((room.text(), room.notes.read_text()), (text[:120 * 59], notes(last=(6, 1001, 2000, 100))))
+
+
+@test
 def a_log_that_is_erased_while_it_is_read_without_times():
     script, text = chain(*range(1, 121))
     lines = text.splitlines(keepends=True)
@@ -192,11 +204,9 @@ def a_log_that_is_erased_before_the_first_look():
             for capture in (None, ""):
                 with Room({**script, 0: [*script[0], *first], "info": looks}, capture) as room:
                     status, said = room.run()
-                    left = ["capture.txt"] if ids == [1] and capture == "" else []
-                    same((ids, status, [name for name in room.there() if name != "capture.txt"]), (ids, 1, ["capture.txt.rest"]))
+                    same((ids, status, room.there()), (ids, 1, ["capture.txt.rest"]))
                     same((room.path / "capture.txt.rest").read_text(), text)
                     expect("the log was erased while it was read" in said, said)
-                    expect(not room.file.exists(), "there is", room.there(), left)
 
 
 @test

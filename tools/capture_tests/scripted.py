@@ -211,6 +211,15 @@ def going_on_from_every_byte():
 
 
 @test
+def a_line_that_was_not_written_to_its_end_is_taken_off():
+    """Also where nothing comes behind it."""
+    script, text = chain(1, 2, end=3)
+    for there in (text[:100], text + "ask="):
+        with Room({**script, 3: [NO_SUCH_RECORD]}, there) as room:
+            room.ends({}, 0, "missing: no record 0003h", text, "walk=missing ask=0003 read=2")
+
+
+@test
 def going_on_with_slots_in_another_order():
     script, text = chain(1, 2, 3, 4, 5)
     lines = text.splitlines(keepends=True)

@@ -1,5 +1,7 @@
 """tools/capture live: many asks a session, and what breaks one. With a script that stands in for ipmitool."""
 
+import os
+import pty
 import resource
 
 from common import expect, record, same, test
@@ -24,6 +26,7 @@ BREAKS = {  # how a session breaks; asked alone, the controller answers
     "words on standard error": "[ $mode = raw ] || echo '?' >&2",
     "a line that is not ended": "[ $mode = raw ] || printf x",
     "an older mark": "[ $mode = raw ] || echo 'Given netfn \"capture-1\" is invalid.' >&2",
+    "an older answer with its mark": f"[ $mode = raw ] || {{ {answer(0xFFFF, record(9))}; echo 'Given netfn \"capture-2\" is invalid.' >&2; sleep 0.3; }}",
     "a mark of its own": "[ $mode = raw ] || echo 'Given netfn \"capture-4\" is invalid.' >&2",
     "no answer": "[ $mode = raw ] || exit 1",
     "no byte": "[ $mode = raw ] || { echo; exit 1; }",
@@ -129,5 +132,8 @@ def nobody_is_asked_for_a_password():
     with Room(script) as room:
         path = room.path / "ipmitool"
         path.write_text(path.read_text().replace("mode=$1\n", "mode=$1\nexec 3<&0\n"))
-        room.ends({}, 0, "3 slots: ended", text, "walk=ended read=3")
-        same(room.runs(), ["raw", "exec"])
+        ends = pty.openpty()
+        status, said = room.run(preexec_fn=lambda: os.close(os.open(os.ttyname(ends[1]), os.O_RDWR)))  # the first terminal that is opened is its own
+        same((status, room.text(), room.runs()), (0, text, ["raw", "exec"]))
+        for end in ends:
+            os.close(end)

@@ -1,7 +1,10 @@
 """tools/capture live: a capture is of one log, is none where nothing was read, and can be made longer. With a script that stands in for ipmitool."""
 
 import os
+import random
 import signal
+import subprocess
+import time
 
 from common import SECONDS, expect, line, log, printed_for, record, same, test, text_of
 from stand_in import NO_SUCH_RECORD, Room, answer, at_once, chain, in_lines, info, notes
@@ -89,7 +92,7 @@ def a_log_that_was_erased_between_two_runs():
                               ((5, "none", "none"), info(4, NO_TIME, 0), "it has 4 entries, and had 5")):
         for capture in (text[:59], text[:65], text):
             with Room({**script, "info": [now]}, capture, notes=notes(last=(*before, 1))) as room:
-                room.refuses("the log is not the one", says, TAKE_ANOTHER)
+                room.refuses("the log is not the one", says, TAKE_ANOTHER, *["its slots behind the first 1 may be of either"] * (capture == text))
 
 
 OTHER_LOGS = {  # what is answered after the first and second of three records are held, and what shows that it is another log
@@ -222,6 +225,37 @@ def a_chain_is_closed_only_after_a_look():
             same(room.text(), text[:118])
             room.script({"info": [info()]})
             room.ends({}, 0, verdict, text, f"walk={verdict.partition(':')[0]} read=3")
+
+
+def an_erasure_among_kills(case):
+    """A log that is erased and filled anew behind some answer, read by runs that are killed at moments of no choice of their own."""
+    seed, times = case
+    chance = random.Random(seed)
+    ids = range(1, 31)
+    old, new = chain(*ids)[0], {ask: [answer(following, record(id)[:3] + LATER[3:4] + record(id)[4:])] for ask, following, id in zip([0, *ids[1:]], [*ids[1:], 0xFFFF], ids)}
+    script = {ask: [f"if [ -f erased ]; then {new[ask][0]}; else {old[ask][0]}; fi"] for ask in old}
+    script["info"] = [f"if [ -f erased ]; then {info(30, 1000, 2001)}; else {info(30, 1000, 2000)}; fi" if times else info(30, 0, NO_TIME)]
+    last = chance.choice([0, *ids[1:]])
+    script[last][0] += "; touch erased" if chance.random() < 0.5 else "; (sleep 0.05; touch erased) &"
+    with Room(script, sessions=chance.random() < 0.8) as room:
+        for _ in range(6):
+            with room.started(stderr=subprocess.DEVNULL) as process:
+                before = len(room.asked())
+                kill = chance.randrange(1, 40)
+                while len(room.asked()) - before < kill and process.poll() is None:
+                    time.sleep(0.005)
+            if room.file.exists():
+                verdict = printed_for(room.text())[-1]
+                logs = {text[32:34] for text in room.text().splitlines()}
+                expect(not verdict.startswith("walk=ended") or len(logs) == 1, case, "has two logs:", room.text())
+            if process.returncode != -signal.SIGKILL:
+                break
+
+
+@test
+def kills_while_the_log_is_erased():
+    """A capture whose log ends is of one log, wherever a run was killed."""
+    at_once(an_erasure_among_kills, [(seed, seed % 2 == 0) for seed in range(16)])
 
 
 @test

@@ -59,7 +59,7 @@ def notes_that_are_none_of_ours():
     script, text = chain(1, 2)
     good = notes()
     for there in ("", "root:x:0:0\n", good + "\n", good[:-1], good.replace("2000", "x"), "host=a\n" + good, good.replace("first", "1st"), good * 2):
-        for capture in (None, "", text[:59]):
+        for capture in (None, text[:59]) if there else (None, "", text[:59]):
             with Room(script, capture, notes=there) as room:
                 room.refuses("capture.txt.info is not what this program writes there; move it away, or take another name")
                 same(room.runs(), [])
@@ -116,7 +116,7 @@ def a_log_that_is_another_without_times():
             room.refuses(says, TAKE_ANOTHER)
     known = notes(last=(5, "none", "none", 2))
     at_once(another, [(other, told, beside) for other in OTHER_LOGS.items()
-                      for told, beside in ((info(5, NO_TIME, NO_TIME), known), (info(5, 0, 0), known), (REFUSED, known), (info(), None), (REFUSED, None))])
+                      for told, beside in ((info(5, NO_TIME, NO_TIME), known), (info(5, 0, 0), known), (REFUSED, known), (info(), None))])
     for other, says in [*OTHER_LOGS.values()][:4]:  # the last is asked in any case: a clock may count from a start
         with Room({**script, **other}, text[:118], notes=notes(last=(5, 1000, 2000, 2))) as room:
             room.refuses(says, TAKE_ANOTHER)
@@ -255,7 +255,7 @@ def an_erasure_among_kills(case):
 @test
 def kills_while_the_log_is_erased():
     """A capture whose log ends is of one log, wherever a run was killed."""
-    at_once(an_erasure_among_kills, [(seed, seed % 2 == 0) for seed in range(16)])
+    at_once(an_erasure_among_kills, [(seed, seed % 2 == 0) for seed in range(10)])
 
 
 @test

@@ -394,10 +394,9 @@ def a_wrong_password():
 
 
 def captured_here(it, name, *options):
-    """Status, standard error and the ids of the records, by the verdict of seldump on the capture; none where there is none."""
+    """Status, standard error, and seldump's verdict on the capture; None where there is no file."""
     said = it.run(CAPTURE, "live", it.path / name, *(options or it.options))
-    *lines, verdict = printed_for((it.path / name).read_text()) if (it.path / name).exists() else [None]
-    return said.returncode, said.stderr, verdict
+    return said.returncode, said.stderr, printed_for((it.path / name).read_text())[-1] if (it.path / name).exists() else None
 
 
 def small(records, seed=10):

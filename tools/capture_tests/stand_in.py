@@ -182,6 +182,6 @@ def every_process_of(room):
 
 def at_once(check, cases):
     """Checks all cases, several at a time: most of it is waiting."""
-    with concurrent.futures.ThreadPoolExecutor(6) as several:
+    with concurrent.futures.ThreadPoolExecutor(4) as several:
         for _ in several.map(check, cases):
             pass

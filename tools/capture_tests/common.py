@@ -3,9 +3,11 @@
 import os
 import pathlib
 import subprocess
+import sys
 
 ROOT = pathlib.Path(__file__).resolve().parent.parent.parent
 CAPTURE = ROOT / "tools/capture"
+RUN_CAPTURE = [sys.executable, "-S", CAPTURE]  # it needs nothing but python's own library, and starts sooner so
 SECONDS = 120  # for one run
 RECORD = bytes.fromhex("010002E8030000200004013001595A55")  # that of the case in docs/SCOPE.md
 TESTS = []
@@ -55,7 +57,7 @@ def printed_for(capture):
 
 def convert(*words, data=b""):
     """Status, standard output and standard error of tools/capture."""
-    run = subprocess.run([CAPTURE, *words], input=data, stdout=subprocess.PIPE, stderr=subprocess.PIPE, timeout=SECONDS)
+    run = subprocess.run([*RUN_CAPTURE, *words], input=data, stdout=subprocess.PIPE, stderr=subprocess.PIPE, timeout=SECONDS)
     expect(b"Traceback" not in run.stderr, run.stderr)
     return run.returncode, run.stdout, run.stderr.decode()
 

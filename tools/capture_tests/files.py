@@ -5,7 +5,7 @@ import resource
 import subprocess
 import tempfile
 
-from common import CAPTURE, RECORD, SECONDS, convert, examples, expect, log, made_from, printed_for, record, same, test, text_of
+from common import RECORD, RUN_CAPTURE, SECONDS, convert, examples, expect, log, made_from, printed_for, record, same, test, text_of
 
 
 def records(*ids):
@@ -74,7 +74,7 @@ def output_that_nobody_reads():
     read, write = os.pipe()
     os.close(read)
     with os.fdopen(write, "wb") as closed:
-        run = subprocess.run([CAPTURE, "from-raw", "-"], input=records(*range(1, 3001)), stdout=closed, stderr=subprocess.PIPE, timeout=SECONDS)
+        run = subprocess.run([*RUN_CAPTURE, "from-raw", "-"], input=records(*range(1, 3001)), stdout=closed, stderr=subprocess.PIPE, timeout=SECONDS)
     same((run.returncode, run.stderr), (1, b""))
 
 
@@ -153,7 +153,7 @@ def files_without_end():
                                      ("from-hex", None, 1, "what comes behind 4,194,304 bytes is left out"), ("to-raw", slot, 2, "over 3,000 slots"), ("to-raw", None, 2, "is no capture")):
         feed = subprocess.Popen(["yes", word.rstrip("\n")] if word else ["cat", "/dev/zero"], stdout=subprocess.PIPE)
         with feed, tempfile.TemporaryFile() as out:
-            run = subprocess.run([CAPTURE, kind, "-"], stdin=feed.stdout, stdout=out, stderr=subprocess.PIPE, timeout=SECONDS,
+            run = subprocess.run([*RUN_CAPTURE, kind, "-"], stdin=feed.stdout, stdout=out, stderr=subprocess.PIPE, timeout=SECONDS,
                                  preexec_fn=lambda: resource.setrlimit(resource.RLIMIT_AS, (2 ** 28, 2 ** 28)))
             feed.kill()
             last = run.stderr.decode().splitlines()[-1]
@@ -166,6 +166,6 @@ def a_file_without_end_that_is_gone_on_with():
     with tempfile.NamedTemporaryFile() as file:
         file.write(text_of(log(1, end=2)).encode() * 3001)
         file.truncate(2 ** 33)
-        run = subprocess.run([CAPTURE, "live", file.name], stderr=subprocess.PIPE, timeout=SECONDS, preexec_fn=lambda: resource.setrlimit(resource.RLIMIT_AS, (2 ** 28, 2 ** 28)))
+        run = subprocess.run([*RUN_CAPTURE, "live", file.name], stderr=subprocess.PIPE, timeout=SECONDS, preexec_fn=lambda: resource.setrlimit(resource.RLIMIT_AS, (2 ** 28, 2 ** 28)))
         same((run.returncode, os.fstat(file.fileno()).st_size), (2, 2 ** 33))
         expect(b"over 3,000 slots" in run.stderr, run.stderr)

@@ -9,7 +9,7 @@ import subprocess
 import tempfile
 import time
 
-from common import CAPTURE, SECONDS, expect, log, printed_for, same, text_of
+from common import RUN_CAPTURE, SECONDS, expect, log, printed_for, same, text_of
 
 NO_SUCH_RECORD = ("echo 'Unable to send RAW command (channel=0x0 netfn=0xa lun=0x0 cmd=0x43 rsp=0xcb):"
                   " Requested sensor, data, or record not found' >&2; exit 1")
@@ -109,7 +109,7 @@ class Room:
 
     @contextlib.contextmanager
     def started(self, *options, before=(), **more):
-        with subprocess.Popen([CAPTURE, "live", *before, self.file, *options], env=self.environment, stdin=subprocess.DEVNULL, stdout=subprocess.PIPE,
+        with subprocess.Popen([*RUN_CAPTURE, "live", *before, self.file, *options], env=self.environment, stdin=subprocess.DEVNULL, stdout=subprocess.PIPE,
                               start_new_session=True, **{"stderr": subprocess.PIPE, **more}) as process:
             try:
                 yield process

@@ -377,6 +377,42 @@ def a_log_that_has_grown_and_is_cut_off():
             room.ends({hang: grown[hang]}, 0, "4 slots: ended", longer, "walk=ended read=4")
 
 
+# Ends the program at once before the call of that number that changes something on the disk.
+CRASH = """import os
+left = [{calls}]
+def counted(function):
+    def call(*words):
+        left[0] -= 1
+        return os._exit(9) if left[0] < 0 else function(*words)
+    return call
+for name in ("pwrite", "ftruncate", "fsync", "rename", "unlink"):
+    setattr(os, name, counted(getattr(os, name)))
+"""
+
+
+@test
+def crashes_between_any_two_writes():
+    """What is there is true at any point, of a log that is read for the first time or has grown; and the next run ends with the whole log."""
+    _, text = chain(1, 2)
+    grown, longer = chain(1, 2, 3, 4)
+    true = {None: {None, "", *(longer[:59 * count] for count in range(1, 5))}, text: {text, *(longer[:59 * count] for count in range(2, 5))}}
+
+    def crash(case):
+        there, calls = case
+        with Room(grown, there, notes=there and notes()) as room:
+            room.instead_of_pty(CRASH.format(calls=calls))
+            status, _ = room.run()
+            left = room.text() if room.file.exists() else None
+            expect(status in (0, 9) and left in true[there], case, "leaves", left, "with status", status)
+            expect(status == 9 or left == longer, case, "ends with", left)
+            room.instead_of_pty("")
+            room.ends({}, 0, "4 slots: ended", longer, "walk=ended read=4")
+            return status
+    ended = {there: at_once(crash, [(there, calls) for calls in range(20)]) for there in (None, text)}
+    for statuses in ended.values():
+        expect(statuses[0] == 9 and statuses[-1] == 0, "there were more writes, or none:", statuses)
+
+
 @test
 def a_log_that_has_grown_into_a_circle():
     """Its last slot closes the chain another way: only after a look."""

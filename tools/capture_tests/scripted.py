@@ -297,6 +297,11 @@ def no_room_on_the_disk():
         status, said = room.run(preexec_fn=lambda: resource.setrlimit(resource.RLIMIT_FSIZE, (100, 100)))
         same((status, room.there()), (1, []))
         expect("capture.txt.info could not be written" in said, said)
+    with Room(script) as room:  # for the notes, and not for the first slot
+        room.instead_of_pty("import os\ndef full(*_):\n    raise OSError(28, 'No space left on device')\nos.pwrite = full\n")
+        status, said = room.run()
+        same((status, room.there()), (1, []))
+        expect("a slot could not be written" in said, said)
 
 
 @test

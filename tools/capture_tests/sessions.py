@@ -105,8 +105,7 @@ def no_terminal_to_be_had():
     """Without one there are no sessions; each ask is alone."""
     script, text = chain(1, 2, 3)
     with Room(script) as room:
-        (room.path / "pty.py").write_text("def openpty():\n    raise OSError('out of pty devices')\n")
-        room.environment["PYTHONPATH"] = str(room.path)
+        room.instead_of_pty("")
         room.ends({}, 0, "3 slots: ended", text, "walk=ended read=3")
         same(room.runs(), ["raw"] * 5)
 

@@ -123,6 +123,11 @@ class Room:
         expect(out == b"" and b"Traceback" not in said, "printed", out, said)
         return process.returncode, said.decode()
 
+    def instead_of_pty(self, words):
+        """Has these words carried out where tools/capture imports pty; there are no sessions then."""
+        (self.path / "pty.py").write_text(f"{words}\ndef openpty():\n    raise OSError('out of pty devices')\n")
+        self.environment["PYTHONPATH"] = str(self.path)
+
     def text(self):
         return self.file.read_text()
 
@@ -181,7 +186,6 @@ def every_process_of(room):
 
 
 def at_once(check, cases):
-    """Checks all cases, several at a time: most of it is waiting."""
+    """What the check gives for each case, several at a time: most of it is waiting."""
     with concurrent.futures.ThreadPoolExecutor(4) as several:
-        for _ in several.map(check, cases):
-            pass
+        return [*several.map(check, cases)]

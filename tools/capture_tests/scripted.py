@@ -13,7 +13,7 @@ import sys
 import time
 
 from common import CAPTURE, SECONDS, convert, expect, line, printed_for, record, same, test
-from stand_in import NO_SUCH_RECORD, Room, answer, at_once, chain, every_process_of, info, notes
+from stand_in import NO_SUCH_RECORD, Room, answer, at_once, chain, every_process_of, info, no_process_stays, notes
 
 
 # ---- how a log ends
@@ -264,7 +264,8 @@ def interruptions():
                 room.wait_for(2)
                 process.send_signal(number)
                 said = process.communicate(timeout=SECONDS)[1].decode()
-                same((number, process.returncode, every_process_of(room)), (number, 128 + number, []))
+                same((number, process.returncode), (number, 128 + number))
+            no_process_stays(room)
             expect(("interrupted" if number == signal.SIGINT else f"ended by signal {number:d}") in said and "has 1 slots" in said and "Traceback" not in said, said)
             room.ends({}, 0, "3 slots: ended", text, "walk=ended read=3")
 
@@ -279,10 +280,7 @@ def a_killed_run_leaves_no_session():
             process.kill()
             process.wait()
             expect(every_process_of(room), "no session was open")
-            end = time.monotonic() + 30
-            while every_process_of(room):
-                expect(time.monotonic() < end, "a session stays")
-                time.sleep(0.05)
+            no_process_stays(room, 30)
 
 
 @test

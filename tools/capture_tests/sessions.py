@@ -5,7 +5,7 @@ import pty
 import resource
 
 from common import expect, record, same, test
-from stand_in import Room, answer, at_once, chain, every_process_of, info
+from stand_in import Room, answer, at_once, chain, info, no_process_stays
 
 MUCH = "while :; do echo 00000000000000000000000000000000; done"
 
@@ -46,7 +46,7 @@ def a_broken_session(case):
             status, said = room.run(before=["--seconds", "1"])
             same((status, room.text()), (0, text))
             same((room.runs(), room.asked()), (["raw", "exec", "raw", "exec"], [0, 2, 3, 3, 4, 5, 6]))
-            same(every_process_of(room), [])
+            no_process_stays(room)
         except AssertionError as error:
             raise AssertionError(f"{name}: {error}")
 
@@ -117,7 +117,8 @@ def words_without_end():
     for sessions in (True, False):
         with Room({**script, 3: [MUCH]}, sessions=sessions) as room:
             status, said = room.run(preexec_fn=lambda: resource.setrlimit(resource.RLIMIT_AS, (2 ** 29, 2 ** 29)))
-            same((status, room.text(), every_process_of(room)), (1, text[:118], []))
+            same((status, room.text()), (1, text[:118]))
+            no_process_stays(room)
             expect("ipmitool said more for 0003h than any answer has" in said, said)
 
 

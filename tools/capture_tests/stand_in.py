@@ -185,6 +185,14 @@ def every_process_of(room):
     return found
 
 
+def no_process_stays(room, seconds=5):
+    """What was killed may take a moment to be gone."""
+    end = time.monotonic() + seconds
+    while every_process_of(room):
+        expect(time.monotonic() < end, "processes stay:", every_process_of(room))
+        time.sleep(0.05)
+
+
 def at_once(check, cases):
     """What the check gives for each case, several at a time: most of it is waiting."""
     with concurrent.futures.ThreadPoolExecutor(4) as several:

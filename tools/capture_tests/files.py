@@ -1,9 +1,11 @@
 """tools/capture from-raw, from-hex and to-raw."""
 
 import os
+import resource
 import subprocess
+import tempfile
 
-from common import CAPTURE, RECORD, SECONDS, convert, examples, expect, log, made_from, printed_for, record, same, test, text_of
+from common import RECORD, RUN_CAPTURE, SECONDS, convert, examples, expect, log, made_from, printed_for, record, same, test, text_of
 
 
 def records(*ids):
@@ -62,7 +64,7 @@ def raw_files_that_are_cut():
 def raw_files_that_are_too_long():
     status, capture, said = made_from("raw", data=records(*range(1, 3003)))
     same((status, printed_for(capture)[-1]), (1, "walk=missing ask=0BB9 read=3000"))
-    expect("2 records are left out" in said, said)
+    expect("what comes behind 3,000 records is left out" in said, said)
     status, capture, said = made_from("raw", data=RECORD * 70_000)
     same((status, printed_for(capture)[-1]), (1, "walk=missing ask=0BB8 read=3000"))
 
@@ -72,7 +74,7 @@ def output_that_nobody_reads():
     read, write = os.pipe()
     os.close(read)
     with os.fdopen(write, "wb") as closed:
-        run = subprocess.run([CAPTURE, "from-raw", "-"], input=records(*range(1, 3001)), stdout=closed, stderr=subprocess.PIPE, timeout=SECONDS)
+        run = subprocess.run([*RUN_CAPTURE, "from-raw", "-"], input=records(*range(1, 3001)), stdout=closed, stderr=subprocess.PIPE, timeout=SECONDS)
     same((run.returncode, run.stderr), (1, b""))
 
 
@@ -137,4 +139,33 @@ def hex_dumps_with_a_fault():
 def hex_dumps_that_are_too_long():
     status, capture, said = made_from_answers(answers(*((id + 1, id) for id in range(1, 3003))))
     same((status, printed_for(capture)[-1]), (1, "walk=missing ask=0BB9 read=3000"))
-    expect("2 answers are left out" in said, said)
+    expect("what comes behind 3,000 answers is left out" in said, said)
+
+
+# ---- more than any log has
+
+
+@test
+def files_without_end():
+    """No more is read than a capture can need, and the rest is refused in one line."""
+    answer, slot = answers((2, 1))[0] + "\n", text_of(log(1))
+    for kind, word, status, says in (("from-raw", None, 1, "what comes behind 3,000 records is left out"), ("from-hex", answer, 1, "what comes behind 4,194,304 bytes is left out"),
+                                     ("from-hex", None, 1, "what comes behind 4,194,304 bytes is left out"), ("to-raw", slot, 2, "over 3,000 slots"), ("to-raw", None, 2, "is no capture")):
+        feed = subprocess.Popen(["yes", word.rstrip("\n")] if word else ["cat", "/dev/zero"], stdout=subprocess.PIPE)
+        with feed, tempfile.TemporaryFile() as out:
+            run = subprocess.run([*RUN_CAPTURE, kind, "-"], stdin=feed.stdout, stdout=out, stderr=subprocess.PIPE, timeout=SECONDS,
+                                 preexec_fn=lambda: resource.setrlimit(resource.RLIMIT_AS, (2 ** 28, 2 ** 28)))
+            feed.kill()
+            last = run.stderr.decode().splitlines()[-1]
+            same((kind, word, run.returncode), (kind, word, status))
+            expect(says in last and b"Traceback" not in run.stderr and os.fstat(out.fileno()).st_size <= 3000 * 59, run.stderr)
+
+
+@test
+def a_file_without_end_that_is_gone_on_with():
+    with tempfile.NamedTemporaryFile() as file:
+        file.write(text_of(log(1, end=2)).encode() * 3001)
+        file.truncate(2 ** 33)
+        run = subprocess.run([*RUN_CAPTURE, "live", file.name], stderr=subprocess.PIPE, timeout=SECONDS, preexec_fn=lambda: resource.setrlimit(resource.RLIMIT_AS, (2 ** 28, 2 ** 28)))
+        same((run.returncode, os.fstat(file.fileno()).st_size), (2, 2 ** 33))
+        expect(b"over 3,000 slots" in run.stderr, run.stderr)

@@ -5,106 +5,15 @@ import os
 import pathlib
 import pty
 import random
+import re
 import resource
 import signal
 import subprocess
 import sys
-import tempfile
 import time
 
-from common import CAPTURE, SECONDS, convert, expect, line, log, printed_for, record, same, test, text_of
-
-NO_SUCH_RECORD = ("echo 'Unable to send RAW command (channel=0x0 netfn=0xa lun=0x0 cmd=0x43 rsp=0xcb):"
-                  " Requested sensor, data, or record not found' >&2; exit 1")
-
-# Stands in for ipmitool. Answers as the file says that has the asked id for its name, and .1 for the first time that it is asked, .2 for the second.
-STAND_IN = """#!/bin/sh
-cd "${0%/*}"
-printf '%s\\n' "$@" >calls
-while [ $# -gt 9 ]; do shift; done
-[ "$1 $2 $3 $4 $5 $8 $9" = 'raw 0x0a 0x43 0x00 0x00 0x00 0xff' ] || { echo "stand-in: $*" >&2; exit 3; }
-id=${7#0x}${6#0x}
-echo "$id" >>asked
-times=$(grep -cx "$id" asked)
-while [ ! -f "$id.$times" ]; do times=$((times - 1)); [ $times -gt 0 ] || exit 3; done
-. "./$id.$times"
-"""
-
-
-def answer(following, record):
-    """The words of the stand-in for an answer, in two lines, as ipmitool has it."""
-    data = following.to_bytes(2, "little") + record
-    return "echo '" + "\n".join(" " + data[place:place + 16].hex(" ") for place in range(0, len(data), 16)) + "'"
-
-
-def chain(*ids, end=0xFFFF):
-    """A log of records with these ids: the stand-in's script, and the capture that it makes."""
-    slots = log(*ids, end=end)
-    return {ask: [answer(following, record)] for ask, following, record in slots}, text_of(slots)
-
-
-class Room:
-    """A folder with a stand-in and a capture."""
-
-    def __init__(self, script=(), text=None):
-        self.folder = tempfile.TemporaryDirectory()
-        self.path = pathlib.Path(self.folder.name)
-        self.file = self.path / "capture.txt"
-        (self.path / "ipmitool").write_text(STAND_IN)
-        (self.path / "ipmitool").chmod(0o755)
-        self.script(script)
-        if text is not None:
-            self.file.write_text(text)
-
-    def __enter__(self):
-        return self
-
-    def __exit__(self, *_):
-        self.folder.cleanup()
-
-    def script(self, script):
-        for id, answers in dict(script).items():
-            for times, words in enumerate(answers, 1):
-                (self.path / f"{id:04x}.{times}").write_text(words + "\n")
-
-    @contextlib.contextmanager
-    def started(self, *options, before=(), **more):
-        environment = {**os.environ, "PATH": f"{self.path}:{os.environ['PATH']}"}
-        with subprocess.Popen([CAPTURE, "live", *before, self.file, *options], env=environment, stdin=subprocess.DEVNULL, stdout=subprocess.PIPE,
-                              start_new_session=True, **{"stderr": subprocess.PIPE, **more}) as process:
-            try:
-                yield process
-            finally:
-                with contextlib.suppress(ProcessLookupError):
-                    os.killpg(process.pid, signal.SIGKILL)  # what does not end must not keep the tests waiting
-
-    def run(self, *options, **more):
-        with self.started(*options, **more) as process:
-            out, said = process.communicate(timeout=SECONDS)
-        expect(out == b"" and b"Traceback" not in said, "printed", out, said)
-        return process.returncode, said.decode()
-
-    def text(self):
-        return self.file.read_text()
-
-    def asked(self):
-        path = self.path / "asked"
-        return [int(id, 16) for id in path.read_text().split()] if path.exists() else []
-
-    def wait_for(self, asks):
-        end = time.monotonic() + SECONDS
-        while len(self.asked()) < asks:
-            expect(time.monotonic() < end, "asked only for", self.asked())
-            time.sleep(0.01)
-
-    def ends(self, script, status, says, text, verdict):
-        """A run over a script: its status, words of what it says, the capture that it leaves, and seldump's verdict on that."""
-        self.script(script)
-        got, said = self.run()
-        same(got, status)
-        expect(says in said.splitlines()[-1], "says", said)
-        same(self.text(), text)
-        same(printed_for(self.text())[-1], verdict)
+from common import CAPTURE, SECONDS, convert, expect, line, printed_for, record, same, test
+from stand_in import NO_SUCH_RECORD, Room, answer, at_once, chain, every_process_of, info, no_process_stays, notes
 
 
 # ---- how a log ends
@@ -124,17 +33,23 @@ def options_are_handed_on():
     with Room(script) as room:
         options = ["-I", "lanplus", "-H", "127.0.0.1", "-U", "a user", "-P", "-h", "--seconds", "-v"]
         same(room.run(*options, before=["--seconds", "9"])[0], 0)
-        same((room.path / "calls").read_text().splitlines(), [*options, *"raw 0x0a 0x43 0x00 0x00 0x00 0x00 0x00 0xff".split()])
+        first, second = (room.path / "calls").read_text().split("\n\n")[:-1]
+        same(first.splitlines(), [*options, "raw", "0x0a", "0x40"])
+        same(second.splitlines()[:-1], [*options, "exec"])
 
 
 @test
 def what_is_no_option_is_not_handed_on():
     """A command before `raw` would be carried out, and `sel clear` is one."""
-    for words in (["sel", "clear"], ["-I", "lan", "sel", "clear"], ["-v", "sel", "clear"], ["lanplus"], ["-I", "lan", "-v", "power", "off"]):
+    for words in (["sel", "clear"], ["-I", "lan", "sel", "clear"], ["-v", "sel", "clear"], ["lanplus"], ["-I", "lan", "-v", "power", "off"], ["-v", "shell"],
+                  ["-Ilan", "shell"], ["-vI", "lan", "shell"], ["--new", "word", "shell"]):
         with Room() as room:
             status, said = room.run(*words)
-            same((words, status, room.asked()), (words, 2, []))
+            same((words, status, room.runs()), (words, 2, []))
             expect("is no option of ipmitool" in said, said)
+    with Room() as room:
+        room.refuses("and there is none", options=["-I", "lan", "-H"])
+        same(room.runs(), [])
 
 
 @test
@@ -182,7 +97,7 @@ def a_missing_id_that_comes_back():
     with Room() as room:
         room.ends(script, 0, "missing: no record 0009h", text.partition("ask=0009")[0], "walk=missing ask=0009 read=2")
         room.ends({}, 0, "3 slots: ended", text, "walk=ended read=3")
-        same(room.asked(), [0, 2, 9, 9])
+        same(room.asked(), [0, 2, 9, 2, 9])  # the last that is there is asked again, so that it is seen to be the same log
 
 
 @test
@@ -196,42 +111,58 @@ FAULTS = {
     "one byte": ("echo ' ff'", "short: 1 bytes of 18"),
     "no byte": ("echo", "short: 0 bytes of 18"),
     "no line": (":", "short: 0 bytes of 18"),
-    "a refusal": ("echo 'Unable to send RAW command (channel=0x0 netfn=0xa lun=0x0 cmd=0x43 rsp=0xc0): Node busy' >&2; exit 1", "0003h was refused with completion code C0h"),
+    "a refusal": ("echo 'Unable to send RAW command (channel=0x0 netfn=0xa lun=0x0 cmd=0x43 rsp=0xd4): ?' >&2; exit 1", "0003h was refused with completion code D4h"),
     "a refusal without a digit": ("echo 'Unable to send RAW command (channel=0x0 netfn=0xa lun=0x0 cmd=0x43 rsp=0x5): ?' >&2; exit 1", "completion code 05h"),
-    "no answer": ("echo 'Unable to send RAW command (channel=0x0 netfn=0xa lun=0x0 cmd=0x43)' >&2; exit 1", "no answer for 0003h: Unable"),
-    "no session": ("echo 'Error: Unable to establish LAN session' >&2; exit 1", "no answer for 0003h: Error: Unable to establish LAN session"),
-    "no word": ("exit 1", "no answer for 0003h: ipmitool ended with status 1"),
-    "a signal": ("kill -9 $$", "no answer for 0003h: ipmitool ended with status -9"),
     "no hexadecimal": ("echo ' ff ff 03 00 0'", "not bytes in hexadecimal"),
     "bytes of no text": ("printf '\\377\\n'", "not bytes in hexadecimal"),
 }
 
 
+LOST = {  # what is asked for again
+    "a busy controller": ("echo 'Unable to send RAW command (channel=0x0 netfn=0xa lun=0x0 cmd=0x43 rsp=0xc0): Node busy' >&2; exit 1", "0003h was refused with completion code C0h"),
+    "a slow controller": ("echo 'Unable to send RAW command (channel=0x0 netfn=0xa lun=0x0 cmd=0x43 rsp=0xc3): Timeout' >&2; exit 1", "0003h was refused with completion code C3h"),
+    "no answer": ("echo 'Unable to send RAW command (channel=0x0 netfn=0xa lun=0x0 cmd=0x43)' >&2; exit 1", "no answer for 0003h: Unable"),
+    "no session": ("echo 'Error: Unable to establish LAN session' >&2; exit 1", "no answer for 0003h: Error: Unable to establish LAN session (asked 3 times)"),
+    "no word": ("exit 1", "no answer for 0003h: ipmitool ended with status 1"),
+    "a signal": ("kill -9 $$", "no answer for 0003h: ipmitool ended with status -9"),
+    "a hang": ("exec sleep 60", "no answer for 0003h within 1 seconds (asked 3 times)"),
+}
+
+
+def a_fault(name, words, says, sessions, tries):
+    """It ends the run with status 1 and keeps what was read; the next run, where the answer has changed, goes on from there."""
+    script, text = chain(1, 2, 3, 4)
+    good, script[3] = script[3], [words]
+    with Room(script, sessions=sessions) as room:
+        try:
+            status, said = room.run(before=["--seconds", "1"] if "hang" in name else [])
+            same((status, room.text()), (1, text.partition("ask=0003")[0]))
+            same(printed_for(room.text())[-1], "walk=missing ask=0003 read=2")
+            expect(says in said.splitlines()[-1] and "the same command goes on from there" in said, "says", said)
+            if not sessions:
+                same(room.asked(), [0, 2, *[3] * tries])
+            before = len(room.asked())
+            room.ends({3: good}, 0, "4 slots: ended", text, "walk=ended read=4")
+            same(room.asked()[before:], [2, 3, 4])
+        except AssertionError as error:
+            raise AssertionError(f"{name}, {'in a session' if sessions else 'alone'}: {error}")
+
+
 @test
 def faults():
-    """Each ends the run with status 1 and keeps what was read; the next run, where the answer has changed, goes on from there."""
-    for name, (words, says) in FAULTS.items():
-        script, text = chain(1, 2, 3, 4)
-        script[3].insert(0, words)
-        with Room() as room:
-            try:
-                room.ends(script, 1, says, text.partition("ask=0003")[0], "walk=missing ask=0003 read=2")
-                room.ends({}, 0, "4 slots: ended", text, "walk=ended read=4")
-                same(room.asked(), [0, 2, 3, 3, 4])
-            except AssertionError as error:
-                raise AssertionError(f"{name}: {error}")
+    """An answer that does not come is asked for three times in all; another fault ends the run at once."""
+    at_once(lambda fault: a_fault(*fault), [(name, words, says, sessions, tries) for some, tries in ((LOST, 3), (FAULTS, 1))
+                                            for name, (words, says) in some.items() for sessions in (True, False) if name != "a hang" or not sessions])
 
 
 @test
-def a_controller_that_hangs():
-    script, text = chain(1, 2, 3)
-    script[2].insert(0, "exec sleep 60")
-    with Room(script) as room:
-        start = time.monotonic()
+def lost_answers_that_come_when_asked_again():
+    script, text = chain(1, 2, 3, 4)
+    for id, (words, _) in zip((0, 2, 3), (LOST["no session"], LOST["a busy controller"], LOST["a hang"])):
+        script[id].insert(0, words)
+    with Room(script, sessions=False) as room:
         status, said = room.run(before=["--seconds", "1"])
-        same(status, 1)
-        expect("no answer for 0002h within 1 seconds" in said and time.monotonic() - start < 30, said)
-        room.ends({}, 0, "3 slots: ended", text, "walk=ended read=3")
+        same((status, room.text(), room.asked()), (0, text, [0, 0, 2, 2, 3, 3, 4]))
 
 
 @test
@@ -266,48 +197,26 @@ def an_answer_that_changes_in_a_circle():
 
 
 @test
-def a_log_that_grows_after_it_was_read():
-    script, text = chain(1, 2)
-    grown, longer = chain(1, 2, 3)
-    with Room() as room:
-        room.ends(script, 0, "2 slots: ended", text, "walk=ended read=2")
-        room.ends(grown, 0, "2 slots: ended", text, "walk=ended read=2")
-        same(room.asked(), [0, 2])
-        room.file.unlink()
-        room.ends({}, 0, "3 slots: ended", longer, "walk=ended read=3")
-
-
-@test
-def a_log_that_is_erased_between_two_runs():
-    """Where its ids come again, what is there cannot be told from what is new; the second run says so before it asks."""
-    script, text = chain(1, 2, 3)
-    script[2].insert(0, "exit 1")
-    with Room(script) as room:
-        same(room.run()[0], 1)
-        anew = {**chain(1, 2, 3, 4)[0], 0: [answer(2, record(1)[:-1] + b"\0")]}
-        room.script({**anew, 2: [anew[2][0]] * 2})
-        status, said = room.run()
-        same((status, said.splitlines()[0]), (0, f"capture: going on with {room.file}, which has 1 slots; if the log was erased since, take another file"))
-        same(room.text()[:59], text[:59])
-
-
-@test
-def a_log_that_is_there_is_not_asked_for_again():
-    _, text = chain(1, 2)
-    with Room(text=text) as room:
-        room.ends({}, 0, "nothing was asked; to read the log anew, take another file", text, "walk=ended read=2")
-        same(room.asked(), [])
-
-
-@test
 def going_on_from_every_byte():
     """Wherever the writing was cut off, the next run ends with the same capture, and asks for nothing that is there in whole."""
     script, text = chain(1, 2, 3)
-    for end in [*range(61), *range(115, 122), *range(len(text) - 3, len(text) + 1)]:
-        with Room(script, text[:end]) as room:
+
+    def going_on_from(end):
+        with Room(script, text[:end], notes=notes()) as room:
             status, said = room.run()
             same((end, status, room.text()), (end, 0, text))
-            same((end, room.asked()), (end, [0, 2, 3][end // 59:]))
+            held = end // 59  # the last that is held is asked again, so that it is seen to be the same log
+            same((end, room.asked()), (end, [[], [0], [2], [3]][held] + [0, 2, 3][held:]))
+    at_once(going_on_from, [*range(61), *range(115, 122), *range(len(text) - 3, len(text) + 1)])
+
+
+@test
+def a_line_that_was_not_written_to_its_end_is_taken_off():
+    """Also where nothing comes behind it."""
+    script, text = chain(1, 2, end=3)
+    for there in (text[:100], text + "ask="):
+        with Room({**script, 3: [NO_SUCH_RECORD]}, there) as room:
+            room.ends({}, 0, "missing: no record 0003h", text, "walk=missing ask=0003 read=2")
 
 
 @test
@@ -315,9 +224,9 @@ def going_on_with_slots_in_another_order():
     script, text = chain(1, 2, 3, 4, 5)
     lines = text.splitlines(keepends=True)
     there = lines[3] + lines[1] + lines[1].replace("next=0003", "next=0009") + line(0xFFFF, 0, record(1)) + lines[0]
-    with Room(script, there) as room:
+    with Room(script, there, notes=notes()) as room:
         room.ends({}, 0, "7 slots: ended", there + lines[2] + lines[4], "walk=ended read=5")
-        same(room.asked(), [3, 5])
+        same(room.asked(), [2, 3, 5])
 
 
 @test
@@ -336,34 +245,61 @@ def kills():
                 if process.poll() is not None:
                     break
             killed += 1
-            expect(text.startswith(room.text()), "after", killed, "kills the capture is", room.text())
+            there = room.text() if room.file.exists() else ""
+            expect(text.startswith(there), "after", killed, "kills the capture is", there)
             expect(killed <= len(ids), "does not come on")
         same((process.returncode, room.text()), (0, text))
-        expect(killed > 3 and len(room.asked()) <= len(ids) + killed, killed, "kills,", len(room.asked()), "asked")
+        # after a kill one is asked again that was not written, and the last that was, so that it is seen to be the same log
+        expect(killed > 3 and len(room.asked()) <= len(ids) + 2 * killed, killed, "kills,", len(room.asked()), "asked")
 
 
 @test
-def an_interruption():
-    script, text = chain(1, 2, 3)
-    script[2].insert(0, "exec sleep 60")
+def interruptions():
+    """By any signal that it can see; no ipmitool stays behind, neither one for a single ask nor a session."""
+    for number, sessions in ((signal.SIGINT, True), (signal.SIGINT, False), (signal.SIGTERM, True), (signal.SIGTERM, False), (signal.SIGHUP, True)):
+        script, text = chain(1, 2, 3)
+        script[2].insert(0, "exec sleep 60")
+        with Room(script, sessions=sessions) as room:
+            with room.started(preexec_fn=lambda: signal.signal(signal.SIGINT, signal.SIG_DFL)) as process:  # in the background it may be ignored
+                room.wait_for(2)
+                process.send_signal(number)
+                said = process.communicate(timeout=SECONDS)[1].decode()
+                same((number, process.returncode), (number, 128 + number))
+            no_process_stays(room)
+            expect(("interrupted" if number == signal.SIGINT else f"ended by signal {number:d}") in said and "has 1 slots" in said and "Traceback" not in said, said)
+            room.ends({}, 0, "3 slots: ended", text, "walk=ended read=3")
+
+
+@test
+def a_killed_run_leaves_no_session():
+    script, _ = chain(*range(1, 100))
+    script[50].insert(0, "sleep 1")
     with Room(script) as room:
-        with room.started(preexec_fn=lambda: signal.signal(signal.SIGINT, signal.SIG_DFL)) as process:  # in the background it may be ignored
-            room.wait_for(2)
-            process.send_signal(signal.SIGINT)
-            said = process.communicate(timeout=SECONDS)[1].decode()
-        same(process.returncode, 130)
-        expect("interrupted" in said and "has 1 slots" in said and "Traceback" not in said, said)
-        room.ends({}, 0, "3 slots: ended", text, "walk=ended read=3")
+        with room.started() as process:
+            room.wait_for(50)
+            process.kill()
+            process.wait()
+            expect(every_process_of(room), "no session was open")
+            no_process_stays(room, 30)
 
 
 @test
 def no_room_on_the_disk():
-    script, text = chain(1, 2, 3)
+    script, text = chain(*range(1, 10))
     with Room(script) as room:
-        status, said = room.run(preexec_fn=lambda: resource.setrlimit(resource.RLIMIT_FSIZE, (100, 100)))
-        same((status, room.text()), (1, text[:59]))
+        status, said = room.run(preexec_fn=lambda: resource.setrlimit(resource.RLIMIT_FSIZE, (400, 400)))
+        same((status, room.text()), (1, text[:6 * 59]))
         expect("could not be written" in said, said)
-        room.ends({}, 0, "3 slots: ended", text, "walk=ended read=3")
+        room.ends({}, 0, "9 slots: ended", text, "walk=ended read=9")
+    with Room(script) as room:  # not even for the notes
+        status, said = room.run(preexec_fn=lambda: resource.setrlimit(resource.RLIMIT_FSIZE, (100, 100)))
+        same((status, room.there()), (1, []))
+        expect("capture.txt.info could not be written" in said, said)
+    with Room(script) as room:  # for the notes, and not for the first slot
+        room.instead_of_pty("import os\ndef full(*_):\n    raise OSError(28, 'No space left on device')\nos.pwrite = full\n")
+        status, said = room.run()
+        same((status, room.there()), (1, []))
+        expect("a slot could not be written" in said, said)
 
 
 @test
@@ -372,33 +308,83 @@ def three_thousand_slots():
     ids = range(1, 3002)
     script, text = chain(*ids)
     lines = text.splitlines(keepends=True)
-    with Room({id: script[id] for id in (2999, 3000, 3001)}, "".join(lines[:2998])) as room:
+    with Room({id: script[id] for id in (2998, 2999, 3000, 3001)}, "".join(lines[:2998]), notes=notes()) as room:
         room.ends({}, 1, "3,000 slots, the most that a capture has: 0BB9h is not asked for", "".join(lines[:3000]), "walk=missing ask=0BB9 read=3000")
         room.ends({}, 1, "0BB9h is not asked for", "".join(lines[:3000]), "walk=missing ask=0BB9 read=3000")
-        same(room.asked(), [2999, 3000])
+        same(room.asked(), [2998, 2999, 3000])
     lines[2999] = lines[2999].replace("next=0BB9", "next=FFFF")
-    with Room({3000: [answer(0xFFFF, record(3000))]}, "".join(lines[:2999])) as room:
+    with Room({2999: script[2999], 3000: [answer(0xFFFF, record(3000))]}, "".join(lines[:2999]), notes=notes()) as room:
         room.ends({}, 0, "3000 slots: ended", "".join(lines[:3000]), "walk=ended read=3000")
+        said = room.ends({3000: script[3000]}, 0, "3000 slots: ended", "".join(lines[:3000]), "walk=ended read=3000")
+        expect("has no room" in said, said)
+        same(room.asked(), [2999, 3000])
 
 
 @test
 def files_that_are_no_captures():
     _, text = chain(1, 2)
     for there in (text.lower(), text.replace("\n", "\r\n"), text + "\n", "root:x:0:0\n", text + "ask=00G", text[:58] + "0", " ", text * 1501):
-        with Room(text=there) as room:
-            status, said = room.run()
-            same((status, room.file.read_bytes().decode(), room.asked()), (2, there, []))
-            expect("is no capture: line" in said or "3,002 slots" in said, said)
+        for beside in (None, notes()):
+            with Room(text=there, notes=beside) as room:
+                status, said = room.run()
+                same((status, room.file.read_bytes().decode(), room.runs()), (2, there, []))
+                expect("is no capture: line" in said or "over 3,000 slots" in said, said)
+
+
+@test
+def files_without_one_whole_line():
+    """They may be anything: only where the notes beside them say so are they a capture, of which the first line was not written to its end."""
+    script, text = chain(1, 2)
+    for there in ("a", "ask=", "ask=0000 next=0002 record=0100", text[:58]):
+        with Room(script, there) as room:
+            room.refuses("is no capture: it has not one whole line")
+            same(room.runs(), [])
+        with Room(script, there, notes=notes()) as room:
+            room.ends({}, 0, "2 slots: ended", text, "walk=ended read=2")
 
 
 @test
 def files_that_cannot_be_had():
     with Room() as room:
-        for name in (room.path, room.path / "none" / "x", "/dev/null/x", "/dev/full"):
+        os.mkfifo(room.path / "pipe")
+        for name in (room.path, room.path / "none" / "x", "/dev/null/x", "/dev/full", room.path / "pipe"):
             room.file = name
             status, said = room.run()
-            same(status, 2)
+            same((status, room.runs()), (2, []))
             expect(said.startswith("capture: "), said)
+
+
+@test
+def links():
+    """One that leads nowhere is refused, and nothing is made where it points; one to a capture is gone on with."""
+    script, text = chain(1, 2, 3)
+    with Room(script) as room:
+        room.file.symlink_to(room.path / "elsewhere")
+        status, said = room.run()
+        same((status, room.runs(), (room.path / "elsewhere").exists()), (2, [], False))
+        expect("is a link to a file that is not there" in said, said)
+        (room.path / "elsewhere").write_text(text[:59])
+        room.ends({}, 0, "3 slots: ended", text, "walk=ended read=3")
+        expect(room.file.is_symlink() and room.notes.exists(), room.there())
+    with Room(script) as room:  # put there while the first record is asked for
+        room.script({0: [f"ln -s elsewhere capture.txt; {script[0][0]}"]})
+        status, said = room.run()
+        same((status, (room.path / "elsewhere").exists(), room.there()), (2, False, ["capture.txt"]))
+        expect("another has made" in said, said)
+
+
+@test
+def names_and_words_that_a_terminal_would_act_on():
+    with Room({"info": ["printf 'Error: \\033[2J\\233\\a\\nno' >&2; exit 1"]}) as room:
+        room.file = os.fsencode(room.path) + b"/a\x1b[2J\xffb\nc"
+        status, said = room.run()
+        same(status, 1)
+        expect(all(char.isprintable() for char in said[:-1]) and r"Error: \x1b[2J\x9b\x07 / no" in said, said)
+        with open(room.file, "w") as file:
+            file.write("?")
+        status, said = room.run()
+        same(status, 2)
+        expect(all(char.isprintable() for char in said[:-1]) and r"/a\x1b[2J\xffb\x0ac is no capture" in said, said)
 
 
 @test
@@ -415,6 +401,21 @@ def two_at_once():
 
 
 @test
+def two_that_begin_at_once():
+    """The one that has its first answer later finds the file made."""
+    script, text = chain(1, 2)
+    script[0][:0] = ["sleep 2; " + script[0][0]]
+    with Room(script) as room:
+        with room.started() as process:
+            room.wait_for(1)
+            room.ends({}, 0, "2 slots: ended", text, "walk=ended read=2")
+            beside = room.notes.read_text()
+            said = process.communicate(timeout=SECONDS)[1].decode()
+        same((process.returncode, room.text(), room.notes.read_text()), (2, text, beside))
+        expect("another has made" in said, said)
+
+
+@test
 def no_ipmitool():
     with Room() as room:
         (room.path / "python3").symlink_to(sys.executable)
@@ -428,24 +429,32 @@ def no_ipmitool():
 @test
 def progress_without_a_terminal():
     script, text = chain(*range(1, 102))
-    with Room(script, "".join(text.splitlines(keepends=True)[:99])) as room:
+    with Room(script, "".join(text.splitlines(keepends=True)[:99]), notes=notes()) as room:
         status, said = room.run()
-        same((status, said.splitlines()[1:]), (0, ["capture: 100 slots, asking for 0065h", f"capture: {room.file} has 101 slots: ended"]))
+        same((status, said.splitlines()), (0, [f"capture: going on with {room.file}, which has 99 slots", f"capture: {room.file} has 101 slots: ended"]))
+
+
+def said_on_a_terminal(room):
+    read, write = pty.openpty()
+    with room.started(stderr=write) as process:
+        os.close(write)
+        said = b""
+        with contextlib.suppress(OSError):  # the end of a terminal
+            while data := os.read(read, 1000):
+                said += data
+    os.close(read)
+    return said.decode()
 
 
 @test
 def progress_on_a_terminal():
-    script, _ = chain(1, 2, 3)
-    with Room(script) as room:
-        read, write = pty.openpty()
-        with room.started(stderr=write) as process:
-            os.close(write)
-            said = b""
-            with contextlib.suppress(OSError):  # the end of a terminal
-                while data := os.read(read, 1000):
-                    said += data
-        os.close(read)
-        expect(b"\rcapture: 2 slots, asking for 0003h" in said and said.endswith(b"3 slots: ended\r\n"), said)
+    """With the total, the rate and the time that is left, where the controller tells how many records there are."""
+    for words, shows in ((info(entries=3), r"\rcapture: 2 of 3 slots, asking for 0003h, \d+ a second, \d+ seconds left *\r"),
+                         ("echo ' 00'", r"\rcapture: 2 slots, asking for 0003h, \d+ a second *\r")):
+        script, _ = chain(1, 2, 3)
+        with Room({**script, "info": [words]}) as room:
+            said = said_on_a_terminal(room)
+            expect(re.search(shows, said) and said.endswith("3 slots: ended\r\n"), said)
 
 
 @test
@@ -455,4 +464,14 @@ def wrong_calls():
         status, out, said = convert(*words)
         same((words, status, out), (words, 2, b""))
         expect("usage: capture live" in said, said)
-    same(convert("--help")[0], 0)
+
+
+@test
+def help():
+    for words in ([], ["live"], ["from-raw"], ["from-hex"], ["to-raw"]):
+        for asks in ("-h", "--help"):
+            status, out, said = convert(*words, asks)
+            same((words, status, out.split(b"\n")[0][:14], said), (words, 0, b"Makes captures", ""))
+    for asks in ("-h", "--help"):
+        run = subprocess.run([CAPTURE.with_name("controller"), asks], stdout=subprocess.PIPE, stderr=subprocess.PIPE, timeout=SECONDS)
+        same((run.returncode, run.stdout[:11], run.stderr), (0, b"controller ", b""))

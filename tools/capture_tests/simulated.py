@@ -9,6 +9,7 @@ import pathlib
 import random
 import re
 import select
+import shutil
 import signal
 import socket
 import subprocess
@@ -82,8 +83,8 @@ def every_event():
             yield bytes([0, 0, 2, *SUMMER.to_bytes(4, "little"), 0x20, 0x00, 0x04, sensor, 0x30, event_type, offset, 0xFF, 0xFF])
 
 
-def any_records(count):
-    chance = random.Random(10)
+def any_records(count, seed=10):
+    chance = random.Random(seed)
     for _ in range(count):
         kind = chance.choice([0x02] * 10 + [0xC0, 0xC1, 0xDF, 0xE0, 0xE2, 0xFF, 0x00, 0x01, 0x03, 0xBF])
         moment = chance.randrange(2 ** chance.choice([29, 32]) - 0x10000)  # with room for what the clock goes on
@@ -139,48 +140,50 @@ def fields_of(line):
 
 
 class Simulator:
-    """A controller whose log has all these records, read back once through tools/capture."""
+    """A controller whose log is empty. Each run of ipmitool is counted."""
 
     def __init__(self):
-        self.start()
-        self.fill()
-        self.read()
-
-    def start(self):
         folder = tempfile.TemporaryDirectory()
         self.path = pathlib.Path(folder.name)
-        self.environment = {**os.environ, "HOME": folder.name, "TZ": "UTC"}  # FreeIPMI keeps files at home
+        (self.path / "ipmitool").write_text(f"#!/bin/sh\necho >>{self.path}/runs\nexec {shutil.which('ipmitool')} \"$@\"\n")
+        (self.path / "ipmitool").chmod(0o755)
+        # FreeIPMI keeps files at home
+        self.environment = {**os.environ, "HOME": folder.name, "TZ": "UTC", "PATH": f"{folder.name}:{os.environ['PATH']}"}
         with socket.socket(socket.AF_INET, socket.SOCK_DGRAM) as free:
             free.bind(("127.0.0.1", 0))
             self.port = free.getsockname()[1]
         (self.path / "lan").write_text(LAN.format(port=self.port))
         (self.path / "commands").write_text(COMMANDS)
-        self.process = subprocess.Popen(["ipmi_sim", "-n", "-c", self.path / "lan", "-f", self.path / "commands", "-s", self.path],
-                                        stdin=subprocess.DEVNULL, stdout=subprocess.DEVNULL, stderr=subprocess.DEVNULL)
         atexit.register(folder.cleanup)
-        atexit.register(self.process.kill)
         self.user = ["-H", "127.0.0.1", "-p", str(self.port), "-U", "tester", "-P", "secret"]
         self.options = ["-I", "lan", *self.user]
+        self.start()
+
+    def start(self):
+        self.process = subprocess.Popen(["ipmi_sim", "-n", "-c", self.path / "lan", "-f", self.path / "commands", "-s", self.path],
+                                        stdin=subprocess.DEVNULL, stdout=subprocess.DEVNULL, stderr=subprocess.DEVNULL)
+        atexit.register(self.process.kill)
         end = time.monotonic() + SECONDS
         while self.run("ipmitool", *self.options, "mc", "guid").returncode != 0:
             expect(time.monotonic() < end and self.process.poll() is None, "ipmi_sim does not answer")
 
-    def fill(self):
-        """Adds the records, its clock set to the time of each before."""
-        first, events = [record for _, records, _ in examples() for record in records], [*every_event()]
-        self.records = [*first, *events, *any_records(100)]
-        self.events = slice(len(first), len(first) + len(events))
-        commands = [[0x0A, command, *data] for record in self.records for command, data in ((0x49, record[3:7]), (0x44, record))]
+    def restart(self, forgets=False):
+        self.process.kill()
+        self.process.wait()
+        if forgets:
+            shutil.rmtree(self.path / "ipmi_sim")  # what it keeps of itself
+        self.start()
+
+    def add(self, records):
+        """Its clock is set to the time of each before. The seconds by which a time is late at most."""
+        commands = [[0x0A, command, *data] for record in records for command, data in ((0x49, record[3:7]), (0x44, record))]
         (self.path / "add").write_text("".join(f"raw {' '.join(map(hex, command))}\n" for command in commands))
         start = time.monotonic()
         self.ipmitool("exec", str(self.path / "add"))
-        self.late = math.ceil(time.monotonic() - start) + 1  # by so many seconds at most a time is late
+        return math.ceil(time.monotonic() - start) + 1
 
-    def read(self):
-        self.file = self.path / "capture.txt"
-        self.said = self.run(CAPTURE, "live", self.file, *self.options, seconds=10 * SECONDS)
-        self.slots = [(int(line[4:8], 16), int(line[14:18], 16), bytes.fromhex(line[26:58])) for line in self.file.read_text().splitlines()]
-        self.lines = printed_for(self.file.read_text())
+    def runs(self):
+        return len((self.path / "runs").read_text())
 
     def run(self, *command, seconds=SECONDS):
         return subprocess.run(command, env=self.environment, stdin=subprocess.DEVNULL, stdout=subprocess.PIPE, stderr=subprocess.PIPE, encoding="latin-1", timeout=seconds)
@@ -191,22 +194,50 @@ class Simulator:
         return said.stdout
 
 
-STARTED = []
+class Filled(Simulator):
+    """A controller whose log has all these records, read back once through tools/capture."""
+
+    def __init__(self):
+        super().__init__()
+        self.fill()
+        self.read()
+
+    def fill(self):
+        first, events = [record for _, records, _ in examples() for record in records], [*every_event()]
+        self.records = [*first, *events, *any_records(100)]
+        self.events = slice(len(first), len(first) + len(events))
+        self.late = self.add(self.records)
+
+    def read(self):
+        self.file = self.path / "capture.txt"
+        before = self.runs()
+        self.said = self.run(CAPTURE, "live", self.file, *self.options, seconds=10 * SECONDS)
+        self.taken = self.runs() - before
+        self.slots = [(int(line[4:8], 16), int(line[14:18], 16), bytes.fromhex(line[26:58])) for line in self.file.read_text().splitlines()]
+        self.lines = printed_for(self.file.read_text())
+
+
+STARTED = {}
+
+
+def started(kind):
+    """One for all tests; where it does not come up, each of them fails at once."""
+    if kind not in STARTED:
+        STARTED[kind] = None
+        STARTED[kind] = kind()
+    expect(STARTED[kind], "there is no simulated controller")
+    return STARTED[kind]
 
 
 def simulator():
-    """One for all tests; where it does not come up, each of them fails at once."""
-    if not STARTED:
-        STARTED.append(None)
-        STARTED[0] = Simulator()
-    expect(STARTED[0], "there is no simulated controller")
-    return STARTED[0]
+    return started(Filled)
 
 
 @test
 def the_log_is_read_whole_and_in_order():
     it = simulator()
     same((it.said.returncode, it.said.stderr.splitlines()[-1]), (0, f"capture: {it.file} has {len(it.records)} slots: ended"))
+    same(it.taken, 2)  # the first question alone, and one session
     ids = range(1, len(it.records) + 1)
     same(it.slots, [*zip([0, *ids[1:]], [*ids[1:], 0xFFFF], (record for _, _, record in it.slots))])
     for id, record, (_, _, stands) in zip(ids, it.records, it.slots):
@@ -327,7 +358,7 @@ def raw_files_of_ipmitool():
 @test
 def another_interface():
     it = simulator()
-    begun = it.path / "begun.txt"
+    begun = it.path / "other.txt"
     begun.write_text(text_of(it.slots[:-5]))
     said = it.run(CAPTURE, "live", begun, "-I", "lanplus", "-C", "3", *it.user)
     same((said.returncode, begun.read_text()), (0, text_of(it.slots)))
@@ -344,16 +375,97 @@ def a_controller_that_does_not_answer():
     finally:
         it.process.send_signal(signal.SIGCONT)
     same((said.returncode, begun.read_text()), (1, text_of(it.slots[:-2])))
-    expect(f"no answer for {it.slots[-2][0]:04X}h: " in said.stderr, said.stderr)
+    expect("no answer for Get SEL Info: " in said.stderr, said.stderr)
     same((it.run(CAPTURE, "live", begun, *it.options).returncode, begun.read_text()), (0, text_of(it.slots)))
 
 
 @test
 def a_wrong_password():
+    """It is tried once, and leaves nothing."""
     it = simulator()
-    said = it.run(CAPTURE, "live", it.path / "none.txt", "-I", "lan", *it.user[:-1], "wrong", "-N", "1", "-R", "1")
-    same((said.returncode, (it.path / "none.txt").read_text()), (1, ""))
-    expect("no answer for 0000h: " in said.stderr and "wrong" not in said.stderr, said.stderr)
+    for interface in (["lan"], ["lanplus", "-C", "3"]):
+        before = it.runs()
+        said = it.run(CAPTURE, "live", it.path / "none.txt", "-I", *interface, *it.user[:-1], "wrong", "-N", "1", "-R", "1")
+        same((said.returncode, [*it.path.glob("none.txt*")], it.runs() - before), (1, [], 1))
+        expect("no answer for Get SEL Info: " in said.stderr and "wrong" not in said.stderr, said.stderr)
+
+
+# ---- a log that changes
+
+
+def captured_here(it, name, *options):
+    """Status, standard error, and seldump's verdict on the capture; None where there is no file."""
+    said = it.run(CAPTURE, "live", it.path / name, *(options or it.options))
+    return said.returncode, said.stderr, printed_for((it.path / name).read_text())[-1] if (it.path / name).exists() else None
+
+
+def small(records, seed=10):
+    """A controller whose log has so many records, and no others."""
+    it = started(Simulator)
+    it.ipmitool("sel", "clear")
+    it.add([*any_records(records, seed)])
+    return it
+
+
+@test
+def a_log_that_has_grown_over_the_network():
+    it = small(5)
+    same(captured_here(it, "grown.txt")[::2], (0, "walk=ended read=5"))
+    status, said, verdict = captured_here(it, "grown.txt")
+    expect((status, verdict) == (0, "walk=ended read=5") and "nothing new" in said, said)
+    it.add([*any_records(3)])
+    same(captured_here(it, "grown.txt")[::2], (0, "walk=ended read=8"))
+    same(captured_here(it, "whole.txt")[::2], (0, "walk=ended read=8"))
+    same((it.path / "grown.txt").read_text(), (it.path / "whole.txt").read_text())
+
+
+@test
+def a_log_that_is_erased_and_filled_anew_between_two_runs():
+    it = small(8)
+    same(captured_here(it, "erased.txt")[::2], (0, "walk=ended read=8"))
+    whole = (it.path / "erased.txt").read_text()
+    small(8, seed=11)
+    for there in (whole, whole[:59 * 5]):
+        (it.path / "erased.txt").write_text(there)
+        status, said, verdict = captured_here(it, "erased.txt")
+        expect(status == 2 and "the log is not the one" in said and "take another file" in said, status, said)
+        same((it.path / "erased.txt").read_text(), there)
+
+
+@test
+def a_log_that_is_erased_and_filled_anew_while_it_is_read():
+    """By another, while the answer for record 0005h is on its way. Nothing is left of a capture that was begun; what was read is kept beside it."""
+    started(Simulator).restart(forgets=True)  # so that its ids begin with 1 again
+    it, erased = small(8), []
+
+    def erase(answer):
+        if not erased:
+            erased.append(small(8, seed=11))
+        return answer
+    with Proxy(it, erase) as proxy:
+        status, said, verdict = captured_here(it, "during.txt", *proxy.ipmitool)
+    expect(erased and (status, verdict) == (1, None) and "the log was erased while it was read" in said, status, verdict, said)
+    same((it.path / "during.txt.rest").read_text().count("\n"), 5)
+
+
+@test
+def a_controller_that_starts_anew():
+    """With its log, it is gone on with. Without, and filled anew, it is another, also where the capture has no notes."""
+    it = small(8)
+    same(captured_here(it, "restart.txt")[::2], (0, "walk=ended read=8"))
+    whole = (it.path / "restart.txt").read_text()
+    it.restart()
+    status, said, verdict = captured_here(it, "restart.txt")
+    expect((status, verdict) == (0, "walk=ended read=8") and "nothing new" in said, status, said)
+    it.restart(forgets=True)
+    for records, says in ((0, "it has 0 entries, and had 8"), (8, "record ")):
+        it.add([*any_records(records, seed=11)])
+        status, said, _ = captured_here(it, "restart.txt")
+        expect(status == 2 and says in said, status, said)
+    (it.path / "restart.txt.info").unlink()
+    status, said, _ = captured_here(it, "restart.txt")
+    expect(status == 2 and "record " in said, status, said)
+    same((it.path / "restart.txt").read_text(), whole)
 
 
 # ---- a log that is not whole, over the network: what ipmitool and FreeIPMI do themselves

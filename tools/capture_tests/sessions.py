@@ -7,7 +7,7 @@ import resource
 from common import expect, record, same, test
 from stand_in import Room, answer, at_once, chain, info, no_process_stays
 
-MUCH = "while :; do echo 00000000000000000000000000000000; done"
+MUCH = "while echo 00000000000000000000000000000000; do :; done"
 
 
 @test

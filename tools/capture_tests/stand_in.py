@@ -94,6 +94,9 @@ class Room:
         return self
 
     def __exit__(self, *_):
+        for process in every_process_of(self):  # of a run that was killed; it may sleep, or speak on
+            with contextlib.suppress(ProcessLookupError):
+                os.kill(process, signal.SIGKILL)
         self.folder.cleanup()
 
     def script(self, script):

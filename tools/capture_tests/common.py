@@ -9,6 +9,7 @@ ROOT = pathlib.Path(__file__).resolve().parent.parent.parent
 CAPTURE = ROOT / "tools/capture"
 RUN_CAPTURE = [sys.executable, "-S", CAPTURE]  # it needs nothing but python's own library, and starts sooner so
 SECONDS = 120  # for one run
+PATIENCE = 4  # seconds for an ask, where one hangs: more than an answer takes on a busy machine
 RECORD = bytes.fromhex("010002E8030000200004013001595A55")  # that of the case in docs/SCOPE.md
 TESTS = []
 

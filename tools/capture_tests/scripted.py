@@ -12,7 +12,7 @@ import subprocess
 import sys
 import time
 
-from common import CAPTURE, SECONDS, convert, expect, line, printed_for, record, same, test
+from common import CAPTURE, PATIENCE, SECONDS, convert, expect, line, printed_for, record, same, test
 from stand_in import NO_SUCH_RECORD, Room, answer, at_once, chain, every_process_of, info, no_process_stays, notes
 
 
@@ -125,7 +125,7 @@ LOST = {  # what is asked for again
     "no session": ("echo 'Error: Unable to establish LAN session' >&2; exit 1", "no answer for 0003h: Error: Unable to establish LAN session (asked 3 times)"),
     "no word": ("exit 1", "no answer for 0003h: ipmitool ended with status 1"),
     "a signal": ("kill -9 $$", "no answer for 0003h: ipmitool ended with status -9"),
-    "a hang": ("exec sleep 60", "no answer for 0003h within 1 seconds (asked 3 times)"),
+    "a hang": ("exec sleep 60", f"no answer for 0003h within {PATIENCE} seconds (asked 3 times)"),
 }
 
 
@@ -135,7 +135,7 @@ def a_fault(name, words, says, sessions, tries):
     good, script[3] = script[3], [words]
     with Room(script, sessions=sessions) as room:
         try:
-            status, said = room.run(before=["--seconds", "1"] if "hang" in name else [])
+            status, said = room.run(before=["--seconds", str(PATIENCE)] if "hang" in name else [])
             same((status, room.text()), (1, text.partition("ask=0003")[0]))
             same(printed_for(room.text())[-1], "walk=missing ask=0003 read=2")
             expect(says in said.splitlines()[-1] and "the same command goes on from there" in said, "says", said)
@@ -161,7 +161,7 @@ def lost_answers_that_come_when_asked_again():
     for id, (words, _) in zip((0, 2, 3), (LOST["no session"], LOST["a busy controller"], LOST["a hang"])):
         script[id].insert(0, words)
     with Room(script, sessions=False) as room:
-        status, said = room.run(before=["--seconds", "1"])
+        status, said = room.run(before=["--seconds", str(PATIENCE)])
         same((status, room.text(), room.asked()), (0, text, [0, 0, 2, 2, 3, 3, 4]))
 
 

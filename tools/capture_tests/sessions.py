@@ -4,7 +4,7 @@ import os
 import pty
 import resource
 
-from common import expect, record, same, test
+from common import PATIENCE, expect, record, same, test
 from stand_in import Room, answer, at_once, chain, info, no_process_stays
 
 MUCH = "while echo 00000000000000000000000000000000; do :; done"
@@ -43,7 +43,7 @@ def a_broken_session(case):
     script[3] = [f"{words}\n{script[3][0]}"]
     with Room(script) as room:
         try:
-            status, said = room.run(before=["--seconds", "1"])
+            status, said = room.run(before=["--seconds", str(PATIENCE)])
             same((status, room.text()), (0, text))
             same((room.runs(), room.asked()), (["raw", "exec", "raw", "exec"], [0, 2, 3, 3, 4, 5, 6]))
             no_process_stays(room)
@@ -71,9 +71,9 @@ def words_before_a_session():
 def a_session_that_is_late():
     """An answer that comes after its time is never taken for that of another ask: the session is gone by then."""
     script, text = chain(*range(1, 7))
-    script[3] = [f"[ $mode = raw ] || {{ sleep 2; {answer(0xFFFF, record(9))}; exit; }}\n{script[3][0]}"]
+    script[3] = [f"[ $mode = raw ] || {{ sleep {2 * PATIENCE}; {answer(0xFFFF, record(9))}; exit; }}\n{script[3][0]}"]
     with Room(script) as room:
-        same((room.run(before=["--seconds", "1"])[0], room.text()), (0, text))
+        same((room.run(before=["--seconds", str(PATIENCE)])[0], room.text()), (0, text))
 
 
 @test

@@ -61,5 +61,7 @@ impl Info {
 }
 
 fn commands(mask: u8) -> Vec<Command> {
-    COMMANDS.into_iter().filter(|(bit, _)| mask & bit != 0).map(|(_, command)| command).collect()
+    let mut listed = Vec::with_capacity(COMMANDS.len());
+    listed.extend(COMMANDS.into_iter().filter(|(bit, _)| mask & bit != 0).map(|(_, command)| command));
+    listed
 }

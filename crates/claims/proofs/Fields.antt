@@ -34,6 +34,7 @@ use Rattle.sel.specs.declared.Entry.{Entry}
 use Rattle.sel.specs.declared.EntryAnswer.{EntryAnswer}
 use Rattle.sel.specs.declared.ParseEntryError.{ParseEntryError}
 use Rattle.sel.specs.declared.ParsedEntry.{ParsedEntry}
+use Rattle.sel.proofs.Parsed.{parsed-plain, parsed-stamped, parsed-system}
 use Rattle.get_entry.specs.GetEntry.{besideNext, parseAnswer, recordPart, withNext}
 use Rattle.get_entry.specs.declared.EntryInfo.{EntryInfo}
 use Rattle.get_entry.specs.declared.EntryInfoAnswer.{EntryInfoAnswer}
@@ -125,27 +126,13 @@ system-fields s =
 
 module _ (s : List ℕ) (r : ParsedEntry) (p : Promised AnswerKind.Entry r s) (long : 16 ≤ length s) where
   system-is : byteAt s 2 ≡ 0x02 → validChannel (bits 7 4 (byteAt s 8)) ≡ true → r ≡ systemBy (generatorAt (byteAt s 7) (byteAt s 8)) s
-  unfolding parseEntry systemRecord
-  system-is t v = p .decoded ∙ simp (le-ltb (length s) 16 long, t, v)
+  system-is t v = p .decoded ∙ parsed-system validChannel s long t v
 
   stamped-is : 0xC0 ≤ byteAt s 2 → byteAt s 2 ≤ 0xDF → r ≡ stampedRecord s
-  unfolding parseEntry
-  stamped-is a b =
-      p .decoded
-      ∙ simp (le-ltb (length s) 16 long, ne-eqb (byteAt s 2) 0x02 (λ e. omega arith), le-leb 0xC0 (byteAt s 2) a, le-leb (byteAt s 2) 0xDF b)
+  stamped-is a b = p .decoded ∙ parsed-stamped validChannel s long a b
 
   plain-is : 0xE0 ≤ byteAt s 2 → byteAt s 2 ≤ 0xFF → r ≡ plainRecord s
-  unfolding parseEntry
-  plain-is a b =
-      p .decoded
-      ∙ simp (
-        le-ltb (length s) 16 long,
-        ne-eqb (byteAt s 2) 0x02 (λ e. omega arith),
-        le-leb 0xC0 (byteAt s 2) (omega arith),
-        lt-leb (byteAt s 2) 0xDF (omega arith),
-        le-leb 0xE0 (byteAt s 2) a,
-        le-leb (byteAt s 2) 0xFF b,
-      )
+  plain-is a b = p .decoded ∙ parsed-plain validChannel s long a b
 
   six : length (bytesAt s 10 6) ≡ 6
   six = omega (arith, length-take 6 (drop 10 s), length-drop 10 s)

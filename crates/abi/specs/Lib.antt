@@ -2,5 +2,6 @@ pub mod Filled
 pub mod FromStore
 pub mod LengthSays
 pub mod Questions
+pub mod Sames
 pub mod Units
 pub mod Walks

@@ -1,5 +1,6 @@
 // The library for programs in other languages: numbers and lent slices in, numbers out. No function asks anything of its caller.
 mod connections;
+mod same;
 mod texts;
 mod walk;
 
@@ -9,6 +10,8 @@ pub use connections::sel_channel;
 pub use connections::sel_unit;
 use flat::Kind;
 pub use flat_form::SelAnswer;
+pub use same::SelSame;
+pub use same::sel_same_entry;
 pub use texts::sel_data_text;
 pub use texts::sel_event_text;
 pub use texts::sel_event_text_from;

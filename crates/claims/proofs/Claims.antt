@@ -6,6 +6,7 @@ use Rattle.claims.specs.Demand2.{Demand2}
 use Rattle.claims.proofs.Cases.{cases}
 use Rattle.claims.proofs.Demand1.{demand-1}
 use Rattle.claims.proofs.Demand3.{demand-3}
+use Rattle.claims.proofs.Equality.{equality}
 use Rattle.claims.proofs.Fields.{decoded}
 use Rattle.claims.proofs.Header.{header}
 use Rattle.claims.proofs.Requests.{requests}
@@ -25,4 +26,4 @@ demand-2 =
     }
 
 pub claims : Claims
-claims = record { demand1 = demand-1; demand2 = demand-2; demand3 = demand-3; cases = cases; header = header }
+claims = record { demand1 = demand-1; demand2 = demand-2; demand3 = demand-3; cases = cases; header = header; equality = equality }

@@ -2,6 +2,7 @@ pub mod Cases
 pub mod Claims
 pub mod Demand1
 pub mod Demand3
+mod Equality
 pub mod Fields
 pub mod Header
 mod Lines

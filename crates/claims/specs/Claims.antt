@@ -1,9 +1,10 @@
--- What is claimed of the port, whole: the three demands, the cases that its rules mark as proved, and what the header of the library for C says.
--- Assumes nothing.
+-- What is claimed of the port, whole: the three demands, the cases that its rules mark as proved, what the header of the library for C says,
+-- and what was asked for since: what two equal entries may differ in. Assumes nothing.
 use Rattle.claims.specs.Cases.{Cases}
 use Rattle.claims.specs.Demand1.{Demand1}
 use Rattle.claims.specs.Demand2.{Demand2}
 use Rattle.claims.specs.Demand3.{Demand3}
+use Rattle.claims.specs.Equality.{Equality}
 use Rattle.claims.specs.Header.{Header}
 
 pub record Claims : Type 0 where
@@ -12,3 +13,4 @@ pub record Claims : Type 0 where
   pub demand3 : Demand3
   pub cases : Cases
   pub header : Header
+  pub equality : Equality

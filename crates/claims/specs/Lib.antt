@@ -3,6 +3,7 @@ pub mod Claims
 pub mod Demand1
 pub mod Demand2
 pub mod Demand3
+pub mod Equality
 pub mod Fields
 pub mod Header
 pub mod Promises

@@ -1,7 +1,7 @@
 """The questions of the program `replay`, in the order of crates/replay/stdin.
 
 Their answers, crates/replay/stdout, come from four places: from model.py for lines that begin with p or w, which the Rust
-does not have; from dump.py for the words `entry` and `answer`, whose accepted answers are lines of `seldump`, out of the Rust's own
+does not have (of lines that begin with = the model and the Rust must say the same); from dump.py for the words `entry` and `answer`, whose accepted answers are lines of `seldump`, out of the Rust's own
 answers; from panics.txt where the Rust panics; from the Rust for every other line. That a line is no question, `?`, is
 said by the program that asks the Rust (src/main.rs), or by model.py.
 """
@@ -186,6 +186,66 @@ def requests():
             yield question("q", bytes([command]) + b"\xAA" * length)
 
 
+# Good records to compare: of the system by an address and by a software id, with each kind of event data, with all bits set, and with none; OEM
+# records at the edges of their types.
+COMPARED = [
+    *(bytes.fromhex(f"010002E8030000{generator}04013001{data}") for generator in ("2000", "2100", "A1F3", "20E2")
+      for data in ("595A55", "A9FF55", "F5A0FF", "0F1234")),
+    bytes.fromhex("000002" + 26 * "0"), bytes.fromhex("FFFF02" + 26 * "F"),
+    OEM_TIMED, OEM_PLAIN, *(changed(OEM_TIMED, 2, record_type) for record_type in (0xC0, 0xDF, 0xE0, 0xFF)),
+]
+
+# What equal entries overlook, by the list of docs/SCOPE.md: the smallest pairs.
+OVERLOOKED = [
+    ("010002E8030000200004013001595A55", "010002E8030000200404013001595A55"),
+    ("010002E8030000210004013001595A55", "010002E8030000210104013001595A55"),
+    ("010002E8030000200004013001190055", "010002E8030000200004013001190155"),
+    ("010002E803000020000401300119FF55", "010002E803000020000401300159FF55"),
+    ("010002E8030000200004013001495A00", "010002E8030000200004013001495A01"),
+    ("010002E8030000200004013001495AFF", "010002E8030000200004013001595AFF"),
+]
+
+DATA_VALUES = (0x00, 0x5A, 0xFE, 0xFF)
+
+
+def flipped(record, bits):
+    """The record with these bits changed."""
+    return (int.from_bytes(record, "little") ^ sum(1 << bit for bit in bits)).to_bytes(len(record), "little")
+
+
+def flips(record, bits):
+    """The record, and with each of the bits and with every two of them changed."""
+    bits = list(bits)
+    yield record
+    for k, bit in enumerate(bits):
+        yield flipped(record, [bit])
+        yield from (flipped(record, [bit, other]) for other in bits[k + 1:])
+
+
+def data_pairs():
+    """Two records that differ in one event data byte and its kind, each kind and value with each."""
+    for place, shift in ((14, 6), (15, 4)):
+        shown = [changed(changed(RECORD, 13, kind << shift | 0x09), place, value) for kind in range(4) for value in DATA_VALUES]
+        yield from ((a, b) for a in shown for b in shown)
+
+
+def pairs():
+    """What is overlooked, both ways round; each bit of good records flipped, and two bits of the bytes that are not compared whole; event data; then who is refused first."""
+    for one, other in OVERLOOKED:
+        yield from (question("=", bytes.fromhex(one + other)), question("=", bytes.fromhex(other + one)))
+    for record in COMPARED:
+        yield from (question("=", record + flipped(record, bits)) for bits in ([], *([bit] for bit in range(128))))
+    for record in (RECORD, BY_SOFTWARE):
+        for bytes_ in ((8,), (13, 14), (13, 15)):
+            places = [8 * byte + bit for byte in bytes_ for bit in range(8)]
+            yield from (question("=", record + other) for other in flips(record, places))
+    yield from (question("=", a + b) for a, b in data_pairs())
+    refused = [changed(RECORD, 2, 0x03), changed(RECORD, 2, 0xBF), changed(RECORD, 8, 0xC0), changed(BY_SOFTWARE, 8, 0xD3)]
+    good = [RECORD, OEM_TIMED, OEM_PLAIN]
+    yield from (question("=", a + b) for a in refused + good for b in refused + good)
+    yield from (question("=", (RECORD * 3)[:length]) for length in (0, 15, 16, 17, 31, 33, 48))
+
+
 LAST = 0xFFFF
 
 
@@ -284,8 +344,8 @@ def parsed(asked):
             yield name + line[1:]
 
 
-LETTERS = "eygpiarcdvxtnqw"
-FIXED = {"d": 3, "v": 3, "x": 3, "t": 4, "n": 2, "channel": 1, "unit": 1}
+LETTERS = "eygpiarcdvxtnqw="
+FIXED = {"d": 3, "v": 3, "x": 3, "t": 4, "n": 2, "channel": 1, "unit": 1, "=": 32}
 
 
 def malformed():
@@ -315,7 +375,7 @@ def longest():
 LETTERED = [
     *channels_and_units(), *time_texts(), *allocations(), *event_data(), *event_texts(),
     *lengths(), *eight_answers(), *fields(), *oem_records(), *damages(), *texts_of_records(),
-    *record_ids(), *requests(), *small_walks(), *walk_edges(), *long_walks(), *malformed(), *longest(),
+    *pairs(), *record_ids(), *requests(), *small_walks(), *walk_edges(), *long_walks(), *malformed(), *longest(),
 ]
 
 ASKED = [*LETTERED, *parsed(LETTERED)]

@@ -130,6 +130,15 @@ pub fn entry_text(record: &[u8]) -> String {
     }
 }
 
+/// Two records, end to end: the original's own `==` on their entries. The first that is refused answers.
+pub fn same(records: [u8; 32]) -> String {
+    let (first, second) = records.split_at(16);
+    match (Entry::parse(first), Entry::parse(second)) {
+        (Err(why), _) | (Ok(_), Err(why)) => refused(why),
+        (Ok(first), Ok(second)) => accepted(if first == second { "01" } else { "00" }),
+    }
+}
+
 pub fn get_entry(answer: &[u8]) -> String {
     match GetSelEntry::parse_success_response(answer) {
         Ok(info) => {

@@ -20,6 +20,7 @@ fn answer(question: &str) -> Option<String> {
     Some(match kind {
         "e" => kinds::entry(&bytes),
         "y" => kinds::entry_text(&bytes),
+        "=" => kinds::same(bytes.try_into().ok()?),
         "g" => kinds::get_entry(&bytes),
         "i" => kinds::info(&bytes),
         "a" => kinds::allocation(&bytes),

@@ -2,6 +2,7 @@
 // A letter is asked of `flat`, which C and Rust call too; a record and a get-entry answer are also asked of their parsers, by a word.
 mod flats;
 mod parsers;
+mod sames;
 mod say;
 mod walks;
 mod words;
@@ -19,6 +20,7 @@ const BYTES: usize = 60100;
 enum Asked {
     Letter(u8),
     Walk,
+    Same,
     Channel,
     Unit,
     Entry,
@@ -94,7 +96,7 @@ fn starts_with(line: &[u8], word: &[u8]) -> bool {
     true
 }
 
-fn from_place(line: &[u8], at: usize) -> &[u8] {
+pub(crate) fn from_place(line: &[u8], at: usize) -> &[u8] {
     if at <= line.len() {
         return &line[at..];
     }
@@ -102,10 +104,11 @@ fn from_place(line: &[u8], at: usize) -> &[u8] {
 }
 
 fn of_letter(letter: u8) -> Asked {
-    if letter == b'w' {
-        return Asked::Walk;
+    match letter {
+        b'w' => Asked::Walk,
+        b'=' => Asked::Same,
+        _ => Asked::Letter(letter),
     }
-    Asked::Letter(letter)
 }
 
 fn question_in(line: &[u8]) -> Question {
@@ -149,6 +152,7 @@ fn answer_to(asked: Asked, data: &[u8]) {
     match asked {
         Asked::Letter(letter) => flats::ask(letter, data),
         Asked::Walk => walks::walk(data),
+        Asked::Same => sames::same(data),
         Asked::Channel => words::channel(data),
         Asked::Unit => words::unit(data),
         Asked::Entry => parsers::entry(data),

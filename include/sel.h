@@ -38,6 +38,25 @@ typedef struct SelAnswer {
  * 1 under 16 bytes; 2 with the type for any other type; 3 with the channel for a system event on channel Ch or Dh; then 4. */
 SelAnswer sel_entry(const uint8_t *data, size_t data_length, uint8_t *out, size_t out_length);
 
+/* number:  0, or the number that sel_entry refuses the record with: 1, 2 or 3.
+ * value:   what that carries: the record type where it is 2, the channel where it is 3; else 0.
+ * same:    1 exactly if both records are accepted and their entries are equal; else 0.
+ * refused: which record is refused, 1 for a or 2 for b; 0 where neither is. */
+typedef struct SelSame {
+    uint32_t number;
+    uint32_t value;
+    uint32_t same;
+    uint32_t refused;
+} SelSame;
+
+/* Whether two records have equal entries, each of 16 bytes or more; those behind the sixteenth are not looked at. Two system events have, exactly if bytes
+ * 0 to 7 and 9 to 12 agree, the channel agrees (bits 7 to 4 of byte 8), the unit agrees where byte 7 is an address (bits 1 to 0 of byte 8), the offset
+ * agrees (bits 3 to 0 of byte 13), and byte 14 with its kind (bits 7 to 6 of byte 13), and byte 15 with its kind (bits 5 to 4), either agrees or is
+ * unspecified in both, which it is under kind 00 and as FFh. Two OEM records have, exactly if all sixteen bytes agree. So what is overlooked is: bits 3
+ * to 2 of byte 8 of a system event; bits 1 to 0 of byte 8 behind a software id; byte 14, or byte 15, and its kind while it is unspecified in both.
+ * Where a is refused, that is told; then where b is. */
+SelSame sel_same_entry(const uint8_t *a, size_t a_length, const uint8_t *b, size_t b_length);
+
 /* The answer to Get SEL Entry, without the completion code. Writes the next id (2), and then as sel_entry does of the bytes from the third on.
  * 1 under 18 bytes; then as sel_entry; 4 needs two bytes more. */
 SelAnswer sel_get_entry(const uint8_t *data, size_t data_length, uint8_t *out, size_t out_length);

@@ -1,9 +1,10 @@
-//! What ipmi-rs-core does not have: the walk along a captured log, the record's part of an answer, and what a length alone decides.
+//! What ipmi-rs-core does not have: the walk along a captured log, the record's part of an answer, two records compared by their bytes, and
+//! what a length alone decides.
 //!
 //! A capture is slots of [`SLOT`] bytes: the asked id, the next id that was answered, and the record. At most 3,000 slots are walked.
 
-use crate::ffi;
-use crate::storage::sel::RecordId;
+use crate::ffi::{self, Answer};
+use crate::storage::sel::{ParseEntryError, RecordId};
 
 /// The bytes of a slot.
 pub const SLOT: usize = 20;
@@ -62,6 +63,25 @@ pub fn find(slots: &[u8], id: RecordId) -> Option<usize> {
 pub fn record_bytes(answer: &[u8]) -> &[u8] {
     let part = ffi::decode(b'p', answer, &mut [0; 16]).value;
     answer.get(2..2 + part).unwrap_or(&[])
+}
+
+/// Which of two records is refused first, and why.
+#[derive(Debug, Clone, Copy, PartialEq)]
+pub enum RefusedRecord {
+    First(ParseEntryError),
+    Second(ParseEntryError),
+}
+
+/// Whether two records have equal entries, told from their bytes: what `==` says of the entries that `Entry::parse` makes of them. The records may
+/// differ in what no field holds; the project's docs/SCOPE.md, "What equal entries overlook", lists it.
+pub fn same_entry(a: &[u8], b: &[u8]) -> Result<bool, RefusedRecord> {
+    let answer = ffi::same_entry(a, b);
+    let why = Answer { number: answer.number, value: answer.value as usize };
+    match answer.refused {
+        0 => Ok(answer.same == 1),
+        1 => Err(RefusedRecord::First(why.into())),
+        _ => Err(RefusedRecord::Second(why.into())),
+    }
 }
 
 /// What an answer is read as.

@@ -14,6 +14,14 @@ pub(crate) struct Found {
 }
 
 #[repr(C)]
+pub(crate) struct Same {
+    pub number: u32,
+    pub value: u32,
+    pub same: u32,
+    pub refused: u32,
+}
+
+#[repr(C)]
 pub(crate) struct Walk {
     pub number: u32,
     pub verdict: u16,
@@ -23,10 +31,11 @@ pub(crate) struct Walk {
 }
 
 mod library {
-    use super::{Answer, Found, Walk};
+    use super::{Answer, Found, Same, Walk};
 
     extern "C" {
         pub fn sel_entry(data: *const u8, data_length: usize, out: *mut u8, out_length: usize) -> Answer;
+        pub fn sel_same_entry(a: *const u8, a_length: usize, b: *const u8, b_length: usize) -> Same;
         pub fn sel_get_entry(data: *const u8, data_length: usize, out: *mut u8, out_length: usize) -> Answer;
         pub fn sel_allocation(data: *const u8, data_length: usize, out: *mut u8, out_length: usize) -> Answer;
         pub fn sel_decode(kind: u8, data: *const u8, data_length: usize, out: *mut u8, out_length: usize) -> Answer;
@@ -69,6 +78,10 @@ mod library {
 
 pub(crate) fn entry(data: &[u8], out: &mut [u8]) -> Answer {
     unsafe { library::sel_entry(data.as_ptr(), data.len(), out.as_mut_ptr(), out.len()) }
+}
+
+pub(crate) fn same_entry(a: &[u8], b: &[u8]) -> Same {
+    unsafe { library::sel_same_entry(a.as_ptr(), a.len(), b.as_ptr(), b.len()) }
 }
 
 pub(crate) fn get_entry(data: &[u8], out: &mut [u8]) -> Answer {

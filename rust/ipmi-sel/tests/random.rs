@@ -5,7 +5,9 @@ use std::fmt;
 use std::num::{NonZeroU16, NonZeroU8};
 
 use dice::Dice;
-use ipmi_sel::capture::{bytes_that_count, find, record_bytes, refused_length, refused_slots, walk, AnswerKind, Walk, WalkError, SLOT};
+use ipmi_sel::capture::{
+    bytes_that_count, find, record_bytes, refused_length, refused_slots, same_entry, walk, AnswerKind, RefusedRecord, Walk, WalkError, SLOT,
+};
 use ipmi_sel::connection::{Channel, ChannelNumber, LogicalUnit};
 use ipmi_sel::storage::sdr::{decode_event, EventData, SensorType};
 use ipmi_sel::storage::sel::{
@@ -66,6 +68,34 @@ fn entries() {
         assert_eq!(entry == Err(ParseEntryError::NotEnoughData), refused_length(AnswerKind::Entry, bytes.len()));
         check_cut(AnswerKind::Entry, bytes, Entry::parse);
     });
+}
+
+/// A record, and mostly the same with a bit or two changed: what is said of the two is what `==` says of their entries.
+#[test]
+fn two_records() {
+    let mut dice = Dice::new(5);
+    let mut equal = 0;
+    for _ in 0..CALLS {
+        let length = [15, 16, 16, 16, 17, dice.below(24)][dice.below(6)];
+        let record = dice.answer(length);
+        let mut other = if dice.below(8) == 0 { dice.answer(16) } else { record.clone() };
+        for _ in 0..dice.below(3) {
+            // Mostly in the bytes that are not compared whole.
+            let place = [8, 13, 14, 15, dice.below(24)][dice.below(5)];
+            let bits = [1 << dice.below(8), 0xFF][dice.below(2)];
+            if let Some(byte) = other.get_mut(place) {
+                *byte ^= bits;
+            }
+        }
+        let expected = match (Entry::parse(&record), Entry::parse(&other)) {
+            (Err(why), _) => Err(RefusedRecord::First(why)),
+            (Ok(_), Err(why)) => Err(RefusedRecord::Second(why)),
+            (Ok(entry), Ok(other)) => Ok(entry == other),
+        };
+        assert_eq!(same_entry(&record, &other), expected, "{record:02X?} {other:02X?}");
+        equal += usize::from(record != other && expected == Ok(true));
+    }
+    assert!(equal > 1000, "{equal} equal entries of records that differ");
 }
 
 #[test]

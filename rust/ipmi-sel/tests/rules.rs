@@ -3,7 +3,9 @@
 use std::fmt;
 use std::num::{NonZeroU16, NonZeroU8};
 
-use ipmi_sel::capture::{bytes_that_count, find, record_bytes, refused_length, refused_slots, walk, AnswerKind, Verdict, Walk, WalkError};
+use ipmi_sel::capture::{
+    bytes_that_count, find, record_bytes, refused_length, refused_slots, same_entry, walk, AnswerKind, RefusedRecord, Verdict, Walk, WalkError,
+};
 use ipmi_sel::connection::{Channel, ChannelNumber, LogicalUnit, NotEnoughData};
 use ipmi_sel::nonmax::NonMaxU8;
 use ipmi_sel::storage::sdr::{decode_event, EventData, EventData2Type, EventData3Type, SensorType};
@@ -73,6 +75,48 @@ fn a_system_record() {
 
     let Ok(Entry::System { event_direction, event_type, .. }) = Entry::parse(&changed(RECORD, 12, 0xEF)) else { panic!() };
     assert_eq!((event_direction, event_type), (EventDirection::Deassert, 0x6F));
+}
+
+/// Both by the bytes and by `==`.
+fn same(one: &[u8], other: &[u8]) -> bool {
+    let entries = Entry::parse(one).unwrap() == Entry::parse(other).unwrap();
+    assert_eq!(same_entry(one, other), Ok(entries));
+    entries
+}
+
+#[test]
+fn what_equal_entries_overlook() {
+    let by_software = changed(RECORD, 7, 0x21);
+    // The list of docs/SCOPE.md, a pair each.
+    assert!(same(&RECORD, &changed(RECORD, 8, 0x04)) && same(&RECORD, &changed(RECORD, 8, 0x08)));
+    assert!(same(&by_software, &changed(by_software, 8, 0x01)));
+    for (place, kind00, kind01) in [(14, 0x19, 0x59), (15, 0x49, 0x59)] {
+        let unspecified = changed(RECORD, 13, kind00);
+        assert!(same(&changed(unspecified, place, 0x00), &changed(unspecified, place, 0x01)));
+        assert!(same(&changed(unspecified, place, 0xFF), &changed(changed(RECORD, 13, kind01), place, 0xFF)));
+    }
+    assert!(same(&RECORD, &[&RECORD[..], &[0xFF; 9]].concat()));
+
+    assert!(!same(&RECORD, &changed(RECORD, 8, 0x01)), "the unit of an address");
+    assert!(!same(&RECORD, &changed(RECORD, 13, 0x58)), "the offset");
+    assert!(!same(&RECORD, &changed(RECORD, 13, 0x19)), "unspecified in one alone");
+    assert!(!same(&RECORD, &changed(RECORD, 13, 0x99)), "the kind");
+    assert!(!same(&RECORD, &changed(RECORD, 2, 0xC0)), "a system record and one that is not");
+    let oem = changed(RECORD, 2, 0xDF);
+    for place in 0..16 {
+        assert!(place == 2 || !same(&oem, &changed(oem, place, 0xA7)), "byte {place} of an OEM record");
+    }
+    assert!(!same(&oem, &changed(RECORD, 2, 0xE0)), "with a time, and without");
+}
+
+#[test]
+fn which_of_two_records_is_refused() {
+    let (unknown, invalid) = (changed(RECORD, 2, 0x03), changed(RECORD, 8, 0xC0));
+    assert_eq!(same_entry(&unknown, &invalid), Err(RefusedRecord::First(ParseEntryError::UnknownRecordType(3))));
+    assert_eq!(same_entry(&invalid, &unknown), Err(RefusedRecord::First(ParseEntryError::InvalidChannel(12))));
+    assert_eq!(same_entry(&RECORD, &invalid), Err(RefusedRecord::Second(ParseEntryError::InvalidChannel(12))));
+    assert_eq!(same_entry(&RECORD[..15], &RECORD), Err(RefusedRecord::First(ParseEntryError::NotEnoughData)));
+    assert_eq!(same_entry(&RECORD, &[]), Err(RefusedRecord::Second(ParseEntryError::NotEnoughData)));
 }
 
 #[test]

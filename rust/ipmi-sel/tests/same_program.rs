@@ -149,6 +149,23 @@ fn answers() {
     assert!(compared > 40_000 && panics > 0);
 }
 
+/// Of the pairs that `replay` is asked about, and of each of these records beside the one before it.
+#[test]
+fn equal_entries() {
+    let pairs: Vec<_> = asked_of_replay().into_iter().filter(|bytes| bytes.len() == 32).collect();
+    let beside = pairs.windows(2).map(|two| [&two[0][16..], &two[1][16..]].concat());
+    let mut equal = 0;
+    for pair in pairs.iter().cloned().chain(beside) {
+        let (one, other) = pair.split_at(16);
+        let expected = original::equal(one, other);
+        assert_eq!(ours::equal(one, other), expected, "{pair:02X?}");
+        assert_eq!(ipmi_sel::capture::same_entry(one, other).ok(), expected, "{pair:02X?}");
+        equal += usize::from(one != other && expected == Some(true));
+    }
+    println!("{} pairs, of which {equal} differ and are equal entries", 2 * pairs.len() - 1);
+    assert!(pairs.len() > 4000 && equal > 300);
+}
+
 #[test]
 fn fields() {
     let mut compared = 0;

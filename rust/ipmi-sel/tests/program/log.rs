@@ -138,6 +138,11 @@ pub fn answers(bytes: &[u8], out: &mut String) {
     show(out, ClearSel::parse_success_response(bytes));
 }
 
+/// Whether two records are read as equal entries.
+pub fn equal(one: &[u8], other: &[u8]) -> Option<bool> {
+    Some(Entry::parse(one).ok()? == Entry::parse(other).ok()?)
+}
+
 pub fn allocation(bytes: &[u8], out: &mut String) {
     show(out, AllocInfo::parse(bytes));
     show(out, SelAllocInfo::parse(bytes).map(|info| AllocInfo::clone(&info)));

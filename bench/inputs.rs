@@ -109,6 +109,10 @@ fn entries(records: &[Vec<u8>]) -> Vec<Row> {
     let untimed = |record: &[u8]| record[2] >= 0xE0;
     let after_next = |record: &Vec<u8>| [&record[4..6], record].concat();
     let get_entries: Vec<Vec<u8>> = records.iter().map(after_next).collect();
+    let same = |name, inputs| row(name, inputs, original::same, ours::same, (|records: &[u8]| kinds::same(*fixed(records)), answers::same));
+    let equal = |record: &Vec<u8>| [record.as_slice(), record].concat();
+    // In the last byte alone: one that is specified, where it was, by another value.
+    let last_differs = |record: &Vec<u8>| [&record[..], &record[..15], &[record[15] ^ 1]].concat();
     vec![
         entry("entry, system by address", those(records, by_address)),
         entry("entry, system by software", those(records, by_software)),
@@ -117,6 +121,8 @@ fn entries(records: &[Vec<u8>]) -> Vec<Row> {
         entry("entry, all 256", records.to_vec()),
         row("entry, all 256, by sel_decode", records.to_vec(), original::entry, ours::decode_entry, (kinds::entry, answers::decode_entry)),
         entry("entry refused, 15 bytes", cut(records, ..15)),
+        same("two records, equal", records.iter().map(equal).collect()),
+        same("two records, the last byte differs", records.iter().map(last_differs).collect()),
         row("get entry, all 256", get_entries.clone(), original::get_entry, ours::get_entry, (kinds::get_entry, answers::get_entry)),
         row("get entry, all 256, by sel_decode", get_entries, original::get_entry, ours::decode_get_entry, (kinds::get_entry, answers::decode_get_entry)),
     ]

@@ -16,6 +16,15 @@ pub fn entry(record: &[u8], _: &mut Room) {
     black_box(&Entry::parse(record));
 }
 
+/// Two records, end to end; the first that is refused answers.
+pub fn same(records: &[u8], _: &mut Room) {
+    let (first, second) = records.split_at(16);
+    black_box(&match (Entry::parse(first), Entry::parse(second)) {
+        (Ok(first), Ok(second)) => Ok(first == second),
+        (Err(why), _) | (_, Err(why)) => Err(why),
+    });
+}
+
 pub fn get_entry(answer: &[u8], _: &mut Room) {
     black_box(&GetSelEntry::parse_success_response(answer));
 }

@@ -20,6 +20,14 @@ pub struct Found {
 }
 
 #[repr(C)]
+pub struct Same {
+    number: u32,
+    value: u32,
+    same: u32,
+    refused: u32,
+}
+
+#[repr(C)]
 pub struct Walk {
     number: u32,
     verdict: u16,
@@ -31,6 +39,7 @@ pub struct Walk {
 #[link(name = "abi", kind = "static")]
 extern "C" {
     fn sel_entry(data: *const u8, data_length: usize, out: *mut u8, out_length: usize) -> Answer;
+    fn sel_same_entry(a: *const u8, a_length: usize, b: *const u8, b_length: usize) -> Same;
     fn sel_get_entry(data: *const u8, data_length: usize, out: *mut u8, out_length: usize) -> Answer;
     fn sel_allocation(data: *const u8, data_length: usize, out: *mut u8, out_length: usize) -> Answer;
     fn sel_decode(kind: u8, data: *const u8, data_length: usize, out: *mut u8, out_length: usize) -> Answer;
@@ -86,6 +95,10 @@ macro_rules! calls {
 
 calls! {
     entry, hex: |data, room| sel_entry(data.as_ptr(), data.len(), room.out.as_mut_ptr(), room.out.len());
+    same, sameness: |records, room| {
+        let (a, b) = records.split_at(16);
+        sel_same_entry(a.as_ptr(), a.len(), b.as_ptr(), b.len())
+    };
     get_entry, hex: |data, room| sel_get_entry(data.as_ptr(), data.len(), room.out.as_mut_ptr(), room.out.len());
     allocation, hex: |data, room| sel_allocation(data.as_ptr(), data.len(), room.out.as_mut_ptr(), room.out.len());
     decode_entry, hex: |data, room| decode(b'e', data, room);
@@ -165,6 +178,13 @@ fn text(answer: Answer, room: &Room) -> String {
 
 fn number(answer: impl ToString, _: &Room) -> String {
     answer.to_string()
+}
+
+fn sameness(answer: Same, _: &Room) -> String {
+    match answer.number {
+        0 => format!("0 {:02X}", answer.same),
+        number => format!("{number} {:02X} of record {}", answer.value, answer.refused),
+    }
 }
 
 fn slot(answer: Found, _: &Room) -> String {

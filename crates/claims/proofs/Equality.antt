@@ -1,12 +1,10 @@
 -- What two equal entries may differ in, of the functions that are called. Assumes nothing.
-use Prim.Native.Nat.{ℕ}
 use mathlib.Core.Path.{_≡_, refl, ap}
 use mathlib.Core.Logic.{_↔_}
 use native.Mathlib.Omega.{arith}
 use Rattle.same_entry.specs.declared.SameAnswer.{SameAnswer}
 use Rattle.same_entry.proofs.EqualEntries.{equal-entries, same-says}
 use Rattle.abi.specs.Sames.{sameAnswer}
-use Rattle.abi.specs.declared.same.SelSame.{SelSame}
 use Rattle.claims.specs.Equality.{Equality}
 
 same : (r : SameAnswer) → (sameAnswer r .same ≡ 1) ↔ (r ≡ SameAnswer.Equal)

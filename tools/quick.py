@@ -263,6 +263,16 @@ def sample_faults(root):
             yield f'README.md: `{command} {name}` shows something else than {file.relative_to(root)}'
 
 
+def pair_faults(root):
+    """Pairs of records, one beside the other in a row of docs/SCOPE.md, that `replay` does not answer to have equal entries."""
+    page, lines = root / 'docs/SCOPE.md', [root / 'crates/replay' / name for name in ('stdin', 'stdout')]
+    pairs = re.findall(r'\| `([0-9A-F ]+)` \| `([0-9A-F ]+)` \|', page.read_text()) if page.is_file() else []
+    answers = dict(zip(*(f.read_text(encoding='latin-1').split('\n') for f in lines))) if all(map(Path.is_file, lines)) else {}
+    for pair in pairs:
+        if answers.get('= ' + ''.join(pair).replace(' ', '')) != '0 01':
+            yield f'docs/SCOPE.md: `{pair[0]}` and `{pair[1]}`: no answer of replay says that they have equal entries'
+
+
 def faults(root):
     names = {x.split('#')[0].split(':')[0].strip() for x in (root / 'crates.txt').read_text().splitlines()} - {''}
     there = {d.name for d in (root / 'crates').iterdir() if d.is_dir()}
@@ -280,6 +290,7 @@ def faults(root):
     yield from floor_faults(root)
     yield from wide_lines(root)
     yield from sample_faults(root)
+    yield from pair_faults(root)
     said = subprocess.run(['rt', 'fmt', '--check'], cwd=root, capture_output=True, text=True)
     if said.returncode:
         yield 'rt fmt --check: ' + (said.stdout + said.stderr).strip().replace(f'{root}/', '')

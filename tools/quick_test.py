@@ -26,6 +26,8 @@ GOOD = {
 TWO = {'crates.txt': 'a:\nb: a bytes\n', 'crates/b/src/lib.rt': '// none\n', FLOORS: '    floor  rooms\n        2  b\n        1  a\n\n- `a`: one\n- `b`: another\n'}
 WIDE = 'word ' * 24 + 'x\n'
 SAMPLE = {'README.md': 'Run it:\n\n    $ cat examples/x.txt\n    a\n    $ ./seldump examples/x.txt\n    c\n\nSo.\n', 'examples/x.txt': 'a\n', 'examples/x.out': 'c\n'}
+PAIR = {'docs/SCOPE.md': '| bit 0 | `00 AA` | `01 AA` |\n', 'crates.txt': 'a:\nreplay: a\n', FLOORS: '    floor  rooms\n        2  replay\n        1  a\n\n- `a`: one\n- `replay`: another\n',
+        'crates/replay/src/main.rt': 'fn main() {}\n', 'crates/replay/stdin': 't 00\n= 00AA01AA\n', 'crates/replay/stdout': '0\n0 01\n'}
 # What is planted, and a word of what is then said.
 PLANTED = [
     ({'crates/b/src/lib.rt': '// nothing\n'}, 'crates/b is not listed'),
@@ -89,6 +91,9 @@ PLANTED = [
     ({**SAMPLE, 'examples/x.txt': 'a\nb\n'}, '`cat examples/x.txt` shows something else'),
     ({**SAMPLE, 'examples/x.out': 'c\n\n'}, '`./seldump examples/x.txt` shows something else'),
     ({'README.md': SAMPLE['README.md']}, '`./seldump examples/x.txt` shows something else'),
+    (PAIR | {'docs/SCOPE.md': PAIR['docs/SCOPE.md'].replace('01', '02')}, '`00 AA` and `02 AA`: no answer'),
+    (PAIR | {'crates/replay/stdout': '0\n0 00\n'}, '`00 AA` and `01 AA`: no answer'),
+    ({'docs/SCOPE.md': PAIR['docs/SCOPE.md']}, '`00 AA` and `01 AA`: no answer'),
 ]
 
 
@@ -264,7 +269,7 @@ def tried(tree):
 bad = [f'the tree without fault: {x}' for x in tried(GOOD)]
 # Trees without fault: a listed part writer; theorems over data, in a section and on several lines; a promise; a premise; a notion that a
 # definition uses; a theorem inside a proved one; data by its cases; a function in a module of the crate's own; names of functions on
-# two lines; data in data; a second floor; wide code, a table's row and a link; samples.
+# two lines; data in data; a second floor; wide code, a table's row and a link; samples; two records.
 PASSES = [
     {LIB: PUT, PAGE: STATED.replace('clear', 'put') + '\n## Exceptions\n\n- `a::put` requires room for a byte\n'},
     {PROOF: 'module _ (n : ℕ) (f : ℕ → Bool) where\n  pub demand :\n      {s : List ℕ} (g : ℕ → ℕ) → Demand\n  demand = it\n'},
@@ -279,6 +284,7 @@ PASSES = [
     TWO,
     {'docs/MORE.md': f'Code:\n\n    {WIDE}\n    {WIDE}\n```\n{WIDE}```\n\n| {"x" * 156} |\n- [{"x" * 60}](../{"x" * 60})\n'},
     SAMPLE,
+    PAIR,
 ]
 bad += [f'tree {n} without fault: {x}' for n, tree in enumerate(PASSES, 1) for x in tried({**GOOD, **tree})]
 # The tree that exports to C, and the same where ffi.rs leaves a function out, and with other spaces and comments in the header.

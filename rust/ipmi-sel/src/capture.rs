@@ -74,7 +74,6 @@ pub enum RefusedRecord {
 
 /// Whether two records have equal entries, told from their bytes: what `==` says of the entries that `Entry::parse` makes of them. The records may
 /// differ in what no field holds; the project's docs/SCOPE.md, "What equal entries overlook", lists it.
-#[inline]
 pub fn same_entry(a: &[u8], b: &[u8]) -> Result<bool, RefusedRecord> {
     let answer = ffi::same_entry(a, b);
     let why = Answer { number: answer.number, value: answer.value as usize };

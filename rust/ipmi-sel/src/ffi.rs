@@ -80,7 +80,6 @@ pub(crate) fn entry(data: &[u8], out: &mut [u8]) -> Answer {
     unsafe { library::sel_entry(data.as_ptr(), data.len(), out.as_mut_ptr(), out.len()) }
 }
 
-#[inline]
 pub(crate) fn same_entry(a: &[u8], b: &[u8]) -> Same {
     unsafe { library::sel_same_entry(a.as_ptr(), a.len(), b.as_ptr(), b.len()) }
 }

@@ -1,4 +1,5 @@
 -- The claims hold. Assumes nothing.
+use Rattle.event_offset.proofs.SharedTexts.{shared-texts}
 use Rattle.flat_record.proofs.Parsed.{flat-of-parsed}
 use Rattle.record_line.proofs.Bytes.{same-line}
 use Rattle.claims.specs.Claims.{Claims}
@@ -26,4 +27,13 @@ demand-2 =
     }
 
 pub claims : Claims
-claims = record { demand1 = demand-1; demand2 = demand-2; demand3 = demand-3; cases = cases; header = header; equality = equality }
+claims =
+    record {
+      demand1 = demand-1;
+      demand2 = demand-2;
+      demand3 = demand-3;
+      cases = cases;
+      header = header;
+      equality = equality;
+      sharedTexts = shared-texts;
+    }

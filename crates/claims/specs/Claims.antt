@@ -1,5 +1,8 @@
 -- What is claimed of the port, whole: the three demands, the cases that its rules mark as proved, what the header of the library for C says,
--- and what was asked for since: what two equal entries may differ in. Assumes nothing.
+-- and what was asked for since: what two equal entries may differ in, and texts that share their bytes. Assumes nothing.
+use Prim.Native.Nat.{ℕ}
+use mathlib.Core.List.{List}
+use Rattle.event_offset.specs.SharedTexts.{SharedTexts}
 use Rattle.claims.specs.Cases.{Cases}
 use Rattle.claims.specs.Demand1.{Demand1}
 use Rattle.claims.specs.Demand2.{Demand2}
@@ -14,3 +17,5 @@ pub record Claims : Type 0 where
   pub cases : Cases
   pub header : Header
   pub equality : Equality
+  -- of any store that promises what `Texts::new` does
+  pub sharedTexts : (store starts lengths : List ℕ) → SharedTexts store starts lengths

@@ -7,6 +7,7 @@ from pathlib import Path
 
 sys.dont_write_bytecode = True
 from floors import floor_faults
+from lay_out_texts import lay_out
 from signatures import signature_faults
 
 # What the type of data is made of, beside the types that the code declares and records of data.
@@ -273,6 +274,13 @@ def pair_faults(root):
             yield f'docs/SCOPE.md: `{pair[0]}` and `{pair[1]}`: no answer of replay says that they have equal entries'
 
 
+def store_faults(root):
+    """A store of event texts that is not what tools/lay_out_texts.py lays out by the tables."""
+    crate = root / 'crates/event_offset'
+    if (crate / 'src/store.rt').is_file() and (crate / 'src/store.rt').read_text() != lay_out((crate / 'specs/Tables.antt').read_text())[1]:
+        yield 'crates/event_offset/src/store.rt is not what tools/lay_out_texts.py writes'
+
+
 def faults(root):
     names = {x.split('#')[0].split(':')[0].strip() for x in (root / 'crates.txt').read_text().splitlines()} - {''}
     there = {d.name for d in (root / 'crates').iterdir() if d.is_dir()}
@@ -291,6 +299,7 @@ def faults(root):
     yield from wide_lines(root)
     yield from sample_faults(root)
     yield from pair_faults(root)
+    yield from store_faults(root)
     said = subprocess.run(['rt', 'fmt', '--check'], cwd=root, capture_output=True, text=True)
     if said.returncode:
         yield 'rt fmt --check: ' + (said.stdout + said.stderr).strip().replace(f'{root}/', '')

@@ -6,6 +6,7 @@ from pathlib import Path
 
 sys.dont_write_bytecode = True
 sys.path.insert(0, str(Path(__file__).parent))
+from lay_out_texts import lay_out
 from quick import faults
 
 LIB, EDIT = 'crates/a/src/lib.rt', 'crates/a/must-fail/x.edit'
@@ -28,6 +29,11 @@ WIDE = 'word ' * 24 + 'x\n'
 SAMPLE = {'README.md': 'Run it:\n\n    $ cat examples/x.txt\n    a\n    $ ./seldump examples/x.txt\n    c\n\nSo.\n', 'examples/x.txt': 'a\n', 'examples/x.out': 'c\n'}
 PAIR = {'docs/SCOPE.md': '| bit 0 | `00 AA` | `01 AA` |\n', 'crates.txt': 'a:\nreplay: a\n', FLOORS: '    floor  rooms\n        2  replay\n        1  a\n\n- `a`: one\n- `replay`: another\n',
         'crates/replay/src/main.rt': 'fn main() {}\n', 'crates/replay/stdin': 't 00\n= 00AA01AA\n', 'crates/replay/stdout': '0\n0 01\n'}
+ROWS = ('"Battery low" ∷\n          "low" ∷', '"wide" ∷\n          "low" ∷\n          "" ∷\n          "Low" ∷')
+TABLES = 'abbrev pub table : List Row\ntable =\n' + ''.join(f'    record {{\n      code = 0x01;\n      texts =\n          {x}\n          [];\n    }} ∷\n' for x in ROWS) + '    []\n'
+STORE = 'crates/event_offset/src/store.rt'
+LAID = {'crates.txt': 'a:\nevent_offset:\n', FLOORS: '    floor  rooms\n        1  a  event_offset\n\n- `a`: one\n- `event_offset`: another\n',
+        'crates/event_offset/specs/Tables.antt': TABLES, STORE: lay_out(TABLES)[1]}
 # What is planted, and a word of what is then said.
 PLANTED = [
     ({'crates/b/src/lib.rt': '// nothing\n'}, 'crates/b is not listed'),
@@ -94,6 +100,9 @@ PLANTED = [
     (PAIR | {'docs/SCOPE.md': PAIR['docs/SCOPE.md'].replace('01', '02')}, '`00 AA` and `02 AA`: no answer'),
     (PAIR | {'crates/replay/stdout': '0\n0 00\n'}, '`00 AA` and `01 AA`: no answer'),
     ({'docs/SCOPE.md': PAIR['docs/SCOPE.md']}, '`00 AA` and `01 AA`: no answer'),
+    (LAID | {STORE: LAID[STORE].replace('    8,', '    9,', 1)}, 'store.rt is not what tools/lay_out_texts.py writes'),
+    (LAID | {STORE: LAID[STORE].replace('lowide', 'low\\\n    wide')}, 'store.rt is not what tools/lay_out_texts.py writes'),
+    (LAID | {'crates/event_offset/specs/Tables.antt': TABLES.replace('Battery', 'battery')}, 'store.rt is not what tools/lay_out_texts.py writes'),
 ]
 
 
@@ -267,9 +276,12 @@ def tried(tree):
 
 
 bad = [f'the tree without fault: {x}' for x in tried(GOOD)]
+# A text twice, one inside another, one whose start is another's end, and one in the other case.
+if lay_out(TABLES)[0] != 'Battery lowideLow':
+    bad.append(f'the texts are laid out as {lay_out(TABLES)[0]}')
 # Trees without fault: a listed part writer; theorems over data, in a section and on several lines; a promise; a premise; a notion that a
 # definition uses; a theorem inside a proved one; data by its cases; a function in a module of the crate's own; names of functions on
-# two lines; data in data; a second floor; wide code, a table's row and a link; samples; two records.
+# two lines; data in data; a second floor; wide code, a table's row and a link; samples; two records; a store of texts.
 PASSES = [
     {LIB: PUT, PAGE: STATED.replace('clear', 'put') + '\n## Exceptions\n\n- `a::put` requires room for a byte\n'},
     {PROOF: 'module _ (n : ℕ) (f : ℕ → Bool) where\n  pub demand :\n      {s : List ℕ} (g : ℕ → ℕ) → Demand\n  demand = it\n'},
@@ -285,6 +297,7 @@ PASSES = [
     {'docs/MORE.md': f'Code:\n\n    {WIDE}\n    {WIDE}\n```\n{WIDE}```\n\n| {"x" * 156} |\n- [{"x" * 60}](../{"x" * 60})\n'},
     SAMPLE,
     PAIR,
+    LAID,
 ]
 bad += [f'tree {n} without fault: {x}' for n, tree in enumerate(PASSES, 1) for x in tried({**GOOD, **tree})]
 # The tree that exports to C, and the same where ffi.rs leaves a function out, and with other spaces and comments in the header.

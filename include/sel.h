@@ -101,12 +101,12 @@ size_t sel_bytes_that_count(uint8_t kind);
  * bits 7 to 4. An event that has no text is accepted with 0 bytes. 4 where out is shorter than the text. */
 SelAnswer sel_event_text(uint8_t event_type, uint8_t sensor_type, uint8_t offset, uint8_t *out, size_t out_length);
 
-/* What sel_texts fills: bytes, and places of each of its two tables. */
+/* The room that sel_texts asks for: bytes, and places of each of its two tables. */
 #define SEL_STORE 6435
 #define SEL_PLACES 640
 
 /* Fills a store and its tables, which then hold every event's text; a place of an event without text has start 0 and length 0. It is worth it where
- * many texts are written.
+ * many texts are written. Texts share bytes, so not every byte of the store is written: two filled stores are not to be compared by their bytes.
  * Accepted with SEL_STORE bytes. 4 with the length needed of the first slice that is too short; then none is written. */
 SelAnswer sel_texts(uint8_t *store, size_t store_length, uint16_t *starts, size_t starts_length, uint8_t *lengths, size_t lengths_length);
 

@@ -11,6 +11,7 @@ const EVENT_ROOM: usize = 70;
 const DATA_ROOM: usize = 26;
 const TIME_ROOM: usize = 10;
 
+// What the library asks for to fill a store of texts.
 const STORE: usize = 6435;
 const PLACES: usize = 640;
 

@@ -220,11 +220,19 @@ ssize_t read(int fd, void *to, size_t most) {
 """
 
 
+def runs_by_itself(program):
+    """It does not where the C library is too old, nor on Arm, where an emulator runs it."""
+    try:
+        return run([str(program)], b"")[1] == 0
+    except OSError:
+        return False
+
+
 def interrupted(folder):
     """The built program itself, with reads that are interrupted; nothing where there is no C compiler, or it does not run by itself here."""
     source, library, program = folder / "read.c", folder / "read.so", ROOT / "target/bin/seldump"
     source.write_text(INTERRUPTED)
-    alone = shutil.which("cc") and program.is_file() and run([str(program)], b"")[1] == 0
+    alone = shutil.which("cc") and runs_by_itself(program)
     if not alone or subprocess.run(["cc", "-shared", "-fPIC", "-o", library, source], stderr=subprocess.DEVNULL).returncode != 0:
         print("samples: no C compiler, or no program that runs by itself, so the reads that are interrupted are left out")
         return

@@ -15,6 +15,7 @@ pub use same::sel_same_entry;
 pub use texts::sel_data_text;
 pub use texts::sel_event_text;
 pub use texts::sel_event_text_from;
+pub use texts::sel_log_time_text;
 pub use texts::sel_texts;
 pub use texts::sel_time_text;
 pub use walk::SelFound;

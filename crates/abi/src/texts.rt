@@ -4,7 +4,7 @@ use flat_form::SelAnswer;
 use flat_form::of_written;
 use storage::Timestamp;
 ghost use mathlib.Core.List.{[], _∷_};
-ghost use Rattle.storage.specs.Time.{timeText};
+ghost use Rattle.storage.specs.Time.{logTimeText, timeText};
 ghost use Rattle.event_data.specs.DataText.{dataText};
 ghost use Rattle.event_data.specs.EventData.{eventDataOf};
 ghost use Rattle.event_offset.specs.Event.{eventText};
@@ -74,5 +74,14 @@ pub extern "C" fn sel_time_text(time: u32, out: &mut [u8]) -> SelAnswer
 {
     let t = Timestamp::from_u32(time);
     let w = t.write_text(out);
+    of_written(w)
+}
+
+#[no_mangle]
+pub extern "C" fn sel_log_time_text(time: u32, out: &mut [u8]) -> SelAnswer
+    ensures { λ r. ⌜ Gives (taken (logTimeText time)) (now (out .entry)) r (now (out .exit)) ⌝ }
+{
+    let t = Timestamp::from_u32(time);
+    let w = t.write_log_text(out);
     of_written(w)
 }

@@ -1,7 +1,9 @@
 -- The claims hold. Assumes nothing.
+use Rattle.storage.proofs.LogTimes.{log-times}
 use Rattle.event_offset.proofs.SharedTexts.{shared-texts}
 use Rattle.flat_record.proofs.Parsed.{flat-of-parsed}
 use Rattle.record_line.proofs.Bytes.{same-line}
+use Rattle.record_line.proofs.PrintedTime.{printed-time}
 use Rattle.claims.specs.Claims.{Claims}
 use Rattle.claims.specs.Demand2.{Demand2}
 use Rattle.claims.proofs.Cases.{cases}
@@ -36,4 +38,6 @@ claims =
       header = header;
       equality = equality;
       sharedTexts = shared-texts;
+      logTimes = log-times;
+      printedTimes = printed-time;
     }

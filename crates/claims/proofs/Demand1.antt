@@ -45,7 +45,7 @@ use Rattle.flat_answers.specs.Answers.{recordIdFlat}
 use Rattle.flat.specs.Kinds.{flatBy, flatOf}
 use Rattle.flat.specs.Letters.{kindOf}
 use Rattle.flat.specs.Requests.{clearOf, questionLength, requestFlat, requestOf}
-use Rattle.flat.specs.Texts.{entryTextFlat, eventDataTextFlat, eventTextFlat, timeTextFlat}
+use Rattle.flat.specs.Texts.{entryTextFlat, eventDataTextFlat, eventTextFlat, logTimeTextFlat, timeTextFlat}
 use Rattle.flat.specs.declared.Kind.{Kind}
 use Rattle.flat.specs.declared.Question.{Question}
 use Rattle.flat.proofs.Counts.{flat-counts}
@@ -144,7 +144,7 @@ request-not-four command reservation argument =
     (chosen (eqb command 0x47) _ (either NotFour (eqb argument 0x00AA) _ _ tt (chosen (eqb argument 0x0000) _ tt))))
 
 not-four : (kind : Kind) (s : List ℕ) → NotFour (flatBy kind s)
-unfolding recordPartFlat entryTextFlat eventDataFlat eventDataTextFlat eventTextFlat timeTextFlat recordIdFlat requestFlat
+unfolding recordPartFlat entryTextFlat eventDataFlat eventDataTextFlat eventTextFlat timeTextFlat logTimeTextFlat recordIdFlat requestFlat
 not-four (Kind.Answer kind) s = subst NotFour (sym (decides-flat kind .1 s)) (decided-not-four kind s _)
 not-four (Kind.Other Question.EntryText) s = decided-not-four AnswerKind.Entry s _
 not-four (Kind.Other Question.RecordPart) s = tt
@@ -152,6 +152,7 @@ not-four (Kind.Other Question.EventData) s = chosen (eqb (length s) 3) _ tt
 not-four (Kind.Other Question.EventDataText) s = chosen (eqb (length s) 3) _ tt
 not-four (Kind.Other Question.EventText) s = chosen (eqb (length s) 3) _ tt
 not-four (Kind.Other Question.TimeText) s = chosen (eqb (length s) 4) _ tt
+not-four (Kind.Other Question.LogTimeText) s = chosen (eqb (length s) 4) _ tt
 not-four (Kind.Other Question.RecordId) s = chosen (eqb (length s) 2) _ tt
 not-four (Kind.Other Question.Request) s = chosen (eqb (length s) (questionLength (byteAt s 0))) _ (request-not-four _ _ _)
 not-four Kind.NoKind s = none

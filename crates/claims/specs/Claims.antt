@@ -1,8 +1,11 @@
 -- What is claimed of the port, whole: the three demands, the cases that its rules mark as proved, what the header of the library for C says,
--- and what was asked for since: what two equal entries may differ in, and texts that share their bytes. Assumes nothing.
+-- and what was asked for since: what two equal entries may differ in, texts that share their bytes, and times before the
+-- clock was set. Assumes nothing.
 use Prim.Native.Nat.{ℕ}
 use mathlib.Core.List.{List}
+use Rattle.storage.specs.LogTimes.{LogTimes}
 use Rattle.event_offset.specs.SharedTexts.{SharedTexts}
+use Rattle.record_line.specs.PrintedTime.{PrintedTime}
 use Rattle.claims.specs.Cases.{Cases}
 use Rattle.claims.specs.Demand1.{Demand1}
 use Rattle.claims.specs.Demand2.{Demand2}
@@ -19,3 +22,6 @@ pub record Claims : Type 0 where
   pub equality : Equality
   -- of any store that promises what `Texts::new` does
   pub sharedTexts : (store starts lengths : List ℕ) → SharedTexts store starts lengths
+  -- the log's text of a time, and the lines that have it
+  pub logTimes : LogTimes
+  pub printedTimes : (s : List ℕ) → PrintedTime s

@@ -10,7 +10,7 @@ use Rattle.text.specs.Numbers.{decimal, decimalIn, digitOf}
 use Rattle.text.specs.Text.{bytes}
 use Rattle.connection.specs.Channel.{validChannel}
 use Rattle.storage.specs.Alloc.{parseAlloc}
-use Rattle.storage.specs.Time.{timeText}
+use Rattle.storage.specs.Time.{logTimeText, timeText}
 use Rattle.event_data.specs.DataText.{dataText, joined, unlessFFh}
 use Rattle.event_data.specs.EventData.{byKind, eventDataOf}
 use Rattle.event_offset.specs.Event.{eventText}
@@ -26,7 +26,7 @@ use Rattle.flat_answers.specs.Answers.{allocationFlat, clearFlat, idFlat, infoF
 use Rattle.flat.specs.Kinds.{flatOf}
 use Rattle.flat.specs.Letters.{kindOf}
 use Rattle.flat.specs.Requests.{clearOf, questionLength, requestFlat, requestOf}
-use Rattle.flat.specs.Texts.{entryTextFlat, eventDataTextFlat, eventTextFlat, timeTextFlat}
+use Rattle.flat.specs.Texts.{entryTextFlat, eventDataTextFlat, eventTextFlat, logTimeTextFlat, timeTextFlat}
 
 data Case : Type 0 where
   case : Char → List ℕ → Flat → Case
@@ -83,9 +83,11 @@ events : Right
     ∷ case "v" (0x59 ∷ 0x5A ∷ 0x55 ∷ []) (taken (bytes "reading=90, threshold=85"))
     ∷ case "x" (0x6F ∷ 0x22 ∷ 0x0E ∷ []) (taken (bytes "Unknown"))
     ∷ case "t" (0xE8 ∷ 0x03 ∷ 0 ∷ 0 ∷ []) (taken (bytes "1000"))
+    ∷ case "s" (0xE8 ∷ 0x03 ∷ 0 ∷ 0 ∷ []) (taken (bytes "+1000"))
+    ∷ case "s" (0xE8 ∷ 0x03 ∷ 0 ∷ []) noQuestion
     ∷ case "w" (0x69 ∷ 0x5A ∷ 0x55 ∷ []) noQuestion
     ∷ [])
-unfolding kindOf eventDataFlat eventDataTextFlat eventDataOf byKind dataText unlessFFh joined decimal decimalIn digitOf eventTextFlat eventText timeTextFlat timeText
+unfolding kindOf eventDataFlat eventDataTextFlat eventDataOf byKind dataText unlessFFh joined decimal decimalIn digitOf eventTextFlat eventText timeTextFlat timeText logTimeTextFlat logTimeText
 events = refl
 
 requests : Right

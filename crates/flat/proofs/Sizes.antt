@@ -13,6 +13,7 @@ use Rattle.field.specs.Handed.{Handed}
 use Rattle.field.specs.Rows.{LongEnough, long, tooShort}
 use Rattle.field.proofs.Choices.{either}
 use Rattle.connection.specs.Channel.{validChannel}
+use Rattle.storage.specs.Time.{TimeLength}
 use Rattle.storage.proofs.Laws.{time-length}
 use Rattle.event_data.proofs.Room.{data-short}
 use Rattle.event_offset.specs.Event.{eventRoom}
@@ -34,7 +35,7 @@ use Rattle.flat.specs.Kinds.{answerFlat, flatBy}
 use Rattle.flat.specs.Letters.{isText, kindOf}
 use Rattle.flat.specs.Requests.{clearOf, questionLength, requestFlat, requestOf}
 use Rattle.flat.specs.Sizes.{Sizes, flatRoom, requestRoom}
-use Rattle.flat.specs.Texts.{entryTextFlat, eventDataTextFlat, eventTextFlat, timeTextFlat}
+use Rattle.flat.specs.Texts.{entryTextFlat, eventDataTextFlat, eventTextFlat, logTimeTextFlat, timeTextFlat}
 use Rattle.flat.specs.declared.Kind.{Kind}
 use Rattle.flat.specs.declared.Question.{Question}
 
@@ -118,8 +119,11 @@ answer-fits AnswerKind.Clear s = decided-has _ _ _ (λ z. omega arith)
 
 -- any kind: what is known of the bytes is asked for only where the kind is a text
 module _ (s : List ℕ) where
+  time-short : Bytes (length s) s → TimeLength (le32At s 0)
+  time-short b = let each = b .each in time-length (le32At s 0) (omega (arith, each 0, each 1, each 2, each 3))
+
   kind-fits : (kind : Kind) → (isText kind ≡ true → Bytes (length s) s) → Fits (if isText kind then eventRoom else flatRoom) (flatBy kind s)
-  unfolding recordPartFlat eventDataFlat recordIdFlat idFlat requestFlat entryTextFlat eventDataTextFlat eventTextFlat timeTextFlat
+  unfolding recordPartFlat eventDataFlat recordIdFlat idFlat requestFlat entryTextFlat eventDataTextFlat eventTextFlat timeTextFlat logTimeTextFlat
   kind-fits (Kind.Answer kind) bs = answer-fits kind s
   kind-fits (Kind.Other Question.EntryText) bs =
       decided-has _ _ _ (λ z. either (λ (l : List ℕ). length l ≤ eventRoom) (eqb (typeAt s) 0x02) _ _ (event-length _ _ _) (omega arith))
@@ -127,9 +131,8 @@ module _ (s : List ℕ) where
   kind-fits (Kind.Other Question.EventData) bs = either (Fits flatRoom) (eqb (length s) 3) _ _ (omega arith) tt
   kind-fits (Kind.Other Question.EventDataText) bs = either (Fits eventRoom) (eqb (length s) 3) _ _ (omega (arith, data-short s (bs refl .each 1) (bs refl .each 2))) tt
   kind-fits (Kind.Other Question.EventText) bs = either (Fits eventRoom) (eqb (length s) 3) _ _ (event-length _ _ _) tt
-  kind-fits (Kind.Other Question.TimeText) bs =
-      let b = bs refl .each in
-      either (Fits eventRoom) (eqb (length s) 4) _ _ (omega (arith, time-length (le32At s 0) (omega (arith, b 0, b 1, b 2, b 3)))) tt
+  kind-fits (Kind.Other Question.TimeText) bs = either (Fits eventRoom) (eqb (length s) 4) _ _ (omega (arith, time-short (bs refl) .ported)) tt
+  kind-fits (Kind.Other Question.LogTimeText) bs = either (Fits eventRoom) (eqb (length s) 4) _ _ (omega (arith, time-short (bs refl) .log)) tt
   kind-fits (Kind.Other Question.RecordId) bs = either (Fits flatRoom) (eqb (length s) 2) _ _ (omega arith) tt
   kind-fits (Kind.Other Question.Request) bs =
       either (Fits flatRoom) (eqb (length s) (questionLength (byteAt s 0))) _ _ (request-fits flatRoom (omega arith) _ _ _) tt

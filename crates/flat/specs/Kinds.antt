@@ -8,7 +8,7 @@ use Rattle.flat_record.specs.Records.{entryFlat, getEntryFlat, recordPartFlat}
 use Rattle.flat_answers.specs.Answers.{allocationFlat, clearFlat, infoFlat, recordIdFlat, reserveFlat}
 use Rattle.flat.specs.Letters.{kindOf}
 use Rattle.flat.specs.Requests.{requestFlat}
-use Rattle.flat.specs.Texts.{entryTextFlat, eventDataTextFlat, eventTextFlat, timeTextFlat}
+use Rattle.flat.specs.Texts.{entryTextFlat, eventDataTextFlat, eventTextFlat, logTimeTextFlat, timeTextFlat}
 use Rattle.flat.specs.declared.Kind.{Kind}
 use Rattle.flat.specs.declared.Question.{Question}
 
@@ -27,6 +27,7 @@ otherFlat Question.EventData s = eventDataFlat s
 otherFlat Question.EventDataText s = eventDataTextFlat s
 otherFlat Question.EventText s = eventTextFlat s
 otherFlat Question.TimeText s = timeTextFlat s
+otherFlat Question.LogTimeText s = logTimeTextFlat s
 otherFlat Question.RecordId s = recordIdFlat s
 otherFlat Question.Request s = requestFlat s
 

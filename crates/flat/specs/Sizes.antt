@@ -5,7 +5,7 @@ use mathlib.Core.Bool.{true, false}
 use mathlib.Core.List.{List, [], _∷_}
 use lib.ListN.{length}
 use Rattle.field.specs.Bits.{Bytes}
-use Rattle.storage.specs.Time.{timeRoom, timeText}
+use Rattle.storage.specs.Time.{TimeLength}
 use Rattle.event_data.specs.DataText.{dataRoom, dataText}
 use Rattle.event_data.specs.EventData.{eventDataOf}
 use Rattle.event_offset.specs.Event.{eventRoom, eventText}
@@ -38,5 +38,5 @@ pub record Sizes : Type 0 where
   -- the texts by name, and the payload of a request
   pub event : (event sensor offset : ℕ) → length (eventText event sensor offset) ≤ eventRoom
   pub eventData : (b1 b2 b3 : ℕ) → b2 < 256 → b3 < 256 → length (dataText (eventDataOf (b1 ∷ b2 ∷ b3 ∷ []))) ≤ dataRoom
-  pub time : (t : ℕ) → t < 2 ^ 32 → length (timeText t) ≤ timeRoom
+  pub time : (t : ℕ) → t < 2 ^ 32 → TimeLength t
   pub request : (command reservation argument : ℕ) (flat : List ℕ) → requestOf command reservation argument ≡ taken flat → length flat ≤ requestRoom

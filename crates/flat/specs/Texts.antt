@@ -6,7 +6,7 @@ use lib.ListN.{length}
 use Rattle.field.specs.Bits.{byteAt, bits, le32At}
 use Rattle.field.specs.Choose.{if_then_else_}
 use Rattle.connection.specs.Channel.{validChannel}
-use Rattle.storage.specs.Time.{timeText}
+use Rattle.storage.specs.Time.{logTimeText, timeText}
 use Rattle.event_data.specs.DataText.{dataText}
 use Rattle.event_data.specs.EventData.{eventDataOf}
 use Rattle.event_offset.specs.Event.{eventText}
@@ -28,6 +28,9 @@ eventDataTextFlat s = if eqb (length s) 3 then taken (dataText (eventDataOf s)) 
 unfoldable pub eventTextFlat : List ℕ → Flat
 eventTextFlat s = if eqb (length s) 3 then taken (eventText (byteAt s 0) (byteAt s 1) (byteAt s 2)) else noQuestion
 
--- of a time
+-- of a time: as the Rust has it, and as the log's lines do
 unfoldable pub timeTextFlat : List ℕ → Flat
 timeTextFlat s = if eqb (length s) 4 then taken (timeText (le32At s 0)) else noQuestion
+
+unfoldable pub logTimeTextFlat : List ℕ → Flat
+logTimeTextFlat s = if eqb (length s) 4 then taken (logTimeText (le32At s 0)) else noQuestion

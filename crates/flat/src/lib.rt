@@ -30,8 +30,9 @@ pub enum Question {
     EventDataText,
     // Event type, sensor type, offset.
     EventText,
-    // A time of four bytes.
+    // A time of four bytes: as the Rust has it, and as the log's lines do.
     TimeText,
+    LogTimeText,
     // An id of two bytes.
     RecordId,
     // A command and its fields.
@@ -55,6 +56,7 @@ pub fn kind_of(letter: u8) -> Kind
         b'v' => Kind::Other(Question::EventDataText),
         b'x' => Kind::Other(Question::EventText),
         b't' => Kind::Other(Question::TimeText),
+        b's' => Kind::Other(Question::LogTimeText),
         b'n' => Kind::Other(Question::RecordId),
         b'q' => Kind::Other(Question::Request),
         _ => Kind::NoKind,
@@ -82,6 +84,7 @@ fn text_question(question: Question) -> bool
         Question::EventDataText => true,
         Question::EventText => true,
         Question::TimeText => true,
+        Question::LogTimeText => true,
         Question::RecordId => false,
         Question::Request => false,
     }
@@ -108,6 +111,7 @@ fn other(question: Question, data: &[u8], out: &mut [u8]) -> SelAnswer
         Question::EventDataText => texts::event_data_text(data, out),
         Question::EventText => texts::event_text(data, out),
         Question::TimeText => texts::time_text(data, out),
+        Question::LogTimeText => texts::log_time_text(data, out),
         Question::RecordId => flat_answers::record_id(data, out),
         Question::Request => requests::request(data, out),
     }

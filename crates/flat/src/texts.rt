@@ -9,7 +9,7 @@ use sel::Entry;
 use sel::EntryAnswer;
 use storage::Timestamp;
 ghost use Rattle.flat_form.specs.Form.{Gives};
-ghost use Rattle.flat.specs.Texts.{entryTextFlat, eventDataTextFlat, eventTextFlat, timeTextFlat};
+ghost use Rattle.flat.specs.Texts.{entryTextFlat, eventDataTextFlat, eventTextFlat, logTimeTextFlat, timeTextFlat};
 
 // The text of a record's event, empty for an OEM record.
 pub(crate) fn entry_text(data: &[u8], out: &mut [u8]) -> SelAnswer
@@ -58,5 +58,17 @@ pub(crate) fn time_text(data: &[u8], out: &mut [u8]) -> SelAnswer
     }
     let time = Timestamp::from_u32(le32_at(data, 0));
     let w = time.write_text(out);
+    of_written(w)
+}
+
+// The log's text of a time of four bytes.
+pub(crate) fn log_time_text(data: &[u8], out: &mut [u8]) -> SelAnswer
+    ensures { λ r. ⌜ Gives (logTimeTextFlat (now («data» .entry))) (now (out .entry)) r (now (out .exit)) ⌝ }
+{
+    if data.len() != 4 {
+        return no_question();
+    }
+    let time = Timestamp::from_u32(le32_at(data, 0));
+    let w = time.write_log_text(out);
     of_written(w)
 }

@@ -27,10 +27,15 @@ returns-7 c = rw (c .before .before .before .before .enum-told7 .given .1) (sear
 returns-8 : tie.Need-returns-8
 returns-8 c = rw (c .before .before .before .before .enum-told8 .given .1) (search needs)
 
+returns-9 : tie.Need-returns-9
+returns-9 c = rw (c .before .before .before .before .enum-told9 .given .1) (search needs)
+
 pub other-spec : {M : Type 1} → statement M
 other-spec =
     tie.close
     (tie.spec
+    (λ c. search needs)
+    (λ c κs. search needs)
     (λ c. search needs)
     (λ c κs. search needs)
     (λ c. search needs)
@@ -62,4 +67,6 @@ other-spec =
     (λ c. search needs)
     returns-7
     (λ c. search needs)
-    returns-8)
+    returns-8
+    (λ c. search needs)
+    returns-9)

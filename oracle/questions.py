@@ -1,7 +1,7 @@
 """The questions of the program `replay`, in the order of crates/replay/stdin.
 
-Their answers, crates/replay/stdout, come from four places: from model.py for lines that begin with p or w, which the Rust
-does not have (of lines that begin with = the model and the Rust must say the same); from dump.py for the words `entry` and `answer`, whose accepted answers are lines of `seldump`, out of the Rust's own
+Their answers, crates/replay/stdout, come from four places: from model.py for lines that begin with p, w or s, which the Rust
+does not have (of lines that begin with = the model and the Rust must say the same, and so must s and t of the times that the rules leave alone); from dump.py for the words `entry` and `answer`, whose accepted answers are lines of `seldump`, out of the Rust's own
 answers; from panics.txt where the Rust panics; from the Rust for every other line. That a line is no question, `?`, is
 said by the program that asks the Rust (src/main.rs), or by model.py.
 """
@@ -57,12 +57,20 @@ def times():
         yield from (10**k - 1, 10**k, 10**k + 1)
     for k in range(32):
         yield from (2**k - 1, 2**k)
-    yield from (0x20000001, 0xFFFFFFFF)
+    yield from (0x20000001, 0xFFFFFFFE, 0xFFFFFFFF)
 
 
 def time_texts():
-    for time in times():
-        yield question("t", time.to_bytes(4, "little"))
+    for kind in ("t", "s"):
+        for time in times():
+            yield question(kind, time.to_bytes(4, "little"))
+
+
+def timed_records():
+    """Each kind of record with a time, at the edges of the ranges of times."""
+    for time in (0, 1, 0x1FFFFFFF, 0x20000000, 0x20000001, 0xFFFFFFFE, 0xFFFFFFFF):
+        for record in (RECORD, OEM_TIMED):
+            yield question("e", record[:3] + time.to_bytes(4, "little") + record[7:])
 
 
 def allocations():
@@ -344,8 +352,8 @@ def parsed(asked):
             yield name + line[1:]
 
 
-LETTERS = "eygpiarcdvxtnqw="
-FIXED = {"d": 3, "v": 3, "x": 3, "t": 4, "n": 2, "channel": 1, "unit": 1, "=": 32}
+LETTERS = "eygpiarcdvxtsnqw="
+FIXED = {"d": 3, "v": 3, "x": 3, "t": 4, "s": 4, "n": 2, "channel": 1, "unit": 1, "=": 32}
 
 
 def malformed():
@@ -374,7 +382,7 @@ def longest():
 
 LETTERED = [
     *channels_and_units(), *time_texts(), *allocations(), *event_data(), *event_texts(),
-    *lengths(), *eight_answers(), *fields(), *oem_records(), *damages(), *texts_of_records(),
+    *lengths(), *eight_answers(), *fields(), *timed_records(), *oem_records(), *damages(), *texts_of_records(),
     *pairs(), *record_ids(), *requests(), *small_walks(), *walk_edges(), *long_walks(), *malformed(), *longest(),
 ]
 

@@ -26,7 +26,7 @@ SECONDS = 60  # for one run
 # The case of the rules: a line of input, and its line of output.
 LINE = b"ask=0000 next=FFFF record=010002E8030000200004013001595A55\n"
 RECORD = LINE[18:]
-OUTPUT = (b"id=0001 time=1000 gen=i2c:10 chan=0 lun=0 rev=04 sensor=01 number=30 dir=assert type=01 "
+OUTPUT = (b"id=0001 time=+1000 gen=i2c:10 chan=0 lun=0 rev=04 sensor=01 number=30 dir=assert type=01 "
           b"event=Upper Critical - going high data=reading=90, threshold=85\n")
 ENDED = OUTPUT + b"walk=ended read=1\n"
 

@@ -153,7 +153,18 @@ fn texts(records: &[Vec<u8>]) -> Vec<Row> {
         row("event text, single, of a record", of_events, original::entry_text, ours::decode_entry_text, (kinds::entry_text, answers::decode_entry_text)),
         row("event data text", cut(records, 13..), original::event_data_text, ours::data_text, (data_text, answers::data_text)),
         row("timestamp text", cut(records, 3..7), original::time_text, ours::time_text, (time_text, answers::time_text)),
+        of_ours("timestamp text of the log".into(), cut(records, 3..7), 0, ours::log_time_text, (log_time_answer, answers::log_time_text)),
     ]
+}
+
+/// By SCOPE's ranges.
+fn log_time_answer(time: &[u8]) -> String {
+    match u32::from_le_bytes(*fixed(time)) {
+        0 => "0 Unknown".into(),
+        since @ 1..=0x2000_0000 => format!("0 +{since}"),
+        u32::MAX => "0 none".into(),
+        date => format!("0 {date}"),
+    }
 }
 
 fn requests(records: &[Vec<u8>]) -> Vec<Row> {

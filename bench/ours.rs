@@ -53,6 +53,7 @@ extern "C" {
     ) -> Answer;
     fn sel_data_text(b1: u8, b2: u8, b3: u8, out: *mut u8, out_length: usize) -> Answer;
     fn sel_time_text(time: u32, out: *mut u8, out_length: usize) -> Answer;
+    fn sel_log_time_text(time: u32, out: *mut u8, out_length: usize) -> Answer;
     fn sel_request(command: u8, reservation: u16, argument: u16, out: *mut u8, out_length: usize) -> Answer;
     fn sel_slots_length(len: usize) -> u32;
     fn sel_find(slots: *const u8, slots_length: usize, id: u16) -> Found;
@@ -126,6 +127,7 @@ calls! {
         sel_data_text(b1, b2, b3, room.out.as_mut_ptr(), room.out.len())
     };
     time_text, text: |time, room| sel_time_text(u32::from_le_bytes(*fixed(time)), room.out.as_mut_ptr(), room.out.len());
+    log_time_text, text: |time, room| sel_log_time_text(u32::from_le_bytes(*fixed(time)), room.out.as_mut_ptr(), room.out.len());
     request_info, hex: |question, room| request(0x40, 0, 0, room);
     request_allocation, hex: |question, room| request(0x41, 0, 0, room);
     request_reserve, hex: |question, room| request(0x42, 0, 0, room);

@@ -79,9 +79,10 @@ SelAnswer sel_allocation(const uint8_t *data, size_t data_length, uint8_t *out, 
  *   v  three bytes of event data: sel_data_text
  *   x  event type, sensor type, offset: sel_event_text
  *   t  a time (4): sel_time_text
+ *   s  a time (4): sel_log_time_text
  *   n  a record id (2): 1 unless it is 0000h or FFFFh, which name no record; 1 for 0000h, which asks for the first; 1 for FFFFh, the last; the id (2)
  *   q  a request: 40h, 41h or 42h; 47h, reservation (2), AAh or 00h; 43h, reservation (2), record id (2): sel_request
- * 255 for another number of bytes than d, v, x, t, n and q have, and for a request that is none of these. Texts have at most
+ * 255 for another number of bytes than d, v, x, t, s, n and q have, and for a request that is none of these. Texts have at most
  * SEL_EVENT_TEXT (70) bytes, all others at most SEL_FLAT (24). */
 SelAnswer sel_decode(uint8_t kind, const uint8_t *data, size_t data_length, uint8_t *out, size_t out_length);
 
@@ -125,11 +126,17 @@ SelAnswer sel_event_text_from(const uint8_t *store, size_t store_length, const u
  * `oem2=0x17`; empty where neither byte is specified. 4 where out is shorter. */
 SelAnswer sel_data_text(uint8_t b1, uint8_t b2, uint8_t b3, uint8_t *out, size_t out_length);
 
-/* A text of a time has at most so many bytes. */
+/* A text of a time, of either kind, has at most so many bytes. */
 #define SEL_TIME_TEXT 10
 
-/* Writes a time, at most SEL_TIME_TEXT (10) bytes: `Unknown` for 0, else in decimal. 4 where out is shorter. */
+/* Writes a time as the original Rust does, at most SEL_TIME_TEXT (10) bytes: `Unknown` for 0, else in decimal. 4 where out is shorter. It does not tell
+ * seconds since the log was initialised from seconds since 1970: for people, sel_log_time_text is the better one. */
 SelAnswer sel_time_text(uint32_t time, uint8_t *out, size_t out_length);
+
+/* Writes a time as seldump prints it, at most SEL_TIME_TEXT (10) bytes: `Unknown` for 0; `+` and decimal for 1 to 20000000h, which count seconds since the
+ * log was initialised; decimal for 20000001h to FFFFFFFEh, seconds since 1970; `none` for FFFFFFFFh, an unspecified time. So a `+` stands before no date, and
+ * the text is that of sel_time_text exactly for 0 and for dates. 4 where out is shorter. */
+SelAnswer sel_log_time_text(uint32_t time, uint8_t *out, size_t out_length);
 
 /* A payload of a request has at most so many bytes. */
 #define SEL_REQUEST 6

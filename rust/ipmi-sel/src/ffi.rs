@@ -64,6 +64,7 @@ mod library {
         ) -> Answer;
         pub fn sel_data_text(b1: u8, b2: u8, b3: u8, out: *mut u8, out_length: usize) -> Answer;
         pub fn sel_time_text(time: u32, out: *mut u8, out_length: usize) -> Answer;
+        pub fn sel_log_time_text(time: u32, out: *mut u8, out_length: usize) -> Answer;
         pub fn sel_request(command: u8, reservation: u16, argument: u16, out: *mut u8, out_length: usize) -> Answer;
         pub fn sel_channel(number: u8) -> Answer;
         pub fn sel_unit(number: u8) -> Answer;
@@ -136,6 +137,10 @@ pub(crate) fn data_text([b1, b2, b3]: [u8; 3], out: &mut [u8]) -> Answer {
 
 pub(crate) fn time_text(time: u32, out: &mut [u8]) -> Answer {
     unsafe { library::sel_time_text(time, out.as_mut_ptr(), out.len()) }
+}
+
+pub(crate) fn log_time_text(time: u32, out: &mut [u8]) -> Answer {
+    unsafe { library::sel_log_time_text(time, out.as_mut_ptr(), out.len()) }
 }
 
 pub(crate) fn request(command: u8, reservation: u16, argument: u16, out: &mut [u8]) -> Answer {

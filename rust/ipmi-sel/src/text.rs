@@ -6,7 +6,7 @@ use std::sync::OnceLock;
 
 use crate::ffi::{self, Answer};
 
-// The longest text of each kind.
+// The longest text of each kind; both texts of a time have the same room.
 const EVENT_ROOM: usize = 70;
 const DATA_ROOM: usize = 26;
 const TIME_ROOM: usize = 10;
@@ -54,5 +54,11 @@ pub(crate) fn data(f: &mut fmt::Formatter<'_>, data: [u8; 3]) -> fmt::Result {
 pub(crate) fn time(f: &mut fmt::Formatter<'_>, time: u32) -> fmt::Result {
     let mut room = [0; TIME_ROOM];
     let answer = ffi::time_text(time, &mut room);
+    written(f, answer, &room)
+}
+
+pub(crate) fn log_time(f: &mut fmt::Formatter<'_>, time: u32) -> fmt::Result {
+    let mut room = [0; TIME_ROOM];
+    let answer = ffi::log_time_text(time, &mut room);
     written(f, answer, &room)
 }

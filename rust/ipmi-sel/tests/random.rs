@@ -181,8 +181,12 @@ fn event_data_and_texts() {
 #[test]
 fn times() {
     each_bytes(|bytes| {
-        let text = Timestamp::from(u32::from_le_bytes(bytes)).to_string();
-        assert!((1..=10).contains(&text.len()));
+        let number = u32::from_le_bytes(bytes);
+        let time = Timestamp::from(number);
+        let (text, log) = (time.to_string(), time.log_text().to_string());
+        assert!((1..=10).contains(&text.len()) && (1..=10).contains(&log.len()));
+        assert_eq!(log.starts_with('+'), (1..=0x2000_0000).contains(&number));
+        assert_eq!(log == text, number == 0 || (0x2000_0001..=0xFFFF_FFFE).contains(&number));
     });
 }
 

@@ -273,6 +273,22 @@ fn times() {
 }
 
 #[test]
+fn times_before_the_clock_was_set() {
+    let edges = [
+        (0, "Unknown"),
+        (1, "+1"),
+        (1000, "+1000"),
+        (0x2000_0000, "+536870912"),
+        (0x2000_0001, "536870913"),
+        (0xFFFF_FFFE, "4294967294"),
+        (0xFFFF_FFFF, "none"),
+    ];
+    for (time, text) in edges {
+        assert_eq!(Timestamp::from(time).log_text().to_string(), text);
+    }
+}
+
+#[test]
 fn ids_channels_units() {
     assert_eq!((RecordId::new(0x0000), RecordId::new(0xFFFF)), (None, None));
     assert_eq!(record_id(0xFFFE).value(), 0xFFFE);

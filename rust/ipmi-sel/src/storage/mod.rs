@@ -9,9 +9,27 @@ use crate::text;
 pub mod sdr;
 pub mod sel;
 
-/// A time as a log has it. Its text is `Unknown` for 0, else the number.
+/// A time as a log has it. Its text is `Unknown` for 0, else the number, as in the original; for people, `log_text` is the better one.
 #[derive(Debug, Clone, Copy, PartialEq)]
 pub struct Timestamp(u32);
+
+impl Timestamp {
+    /// The text that `seldump` prints: `Unknown` for 0; `+` and the number for 1 to 20000000h, which count seconds since the log was initialised; the
+    /// number for 20000001h to FFFFFFFEh, seconds since 1970; `none` for FFFFFFFFh, an unspecified time. Not in ipmi-rs-core.
+    pub fn log_text(&self) -> LogText {
+        LogText(self.0)
+    }
+}
+
+/// The log's text of a time, to be formatted with `{}`.
+#[derive(Debug, Clone, Copy, PartialEq)]
+pub struct LogText(u32);
+
+impl fmt::Display for LogText {
+    fn fmt(&self, f: &mut fmt::Formatter<'_>) -> fmt::Result {
+        text::log_time(f, self.0)
+    }
+}
 
 impl fmt::Display for Timestamp {
     fn fmt(&self, f: &mut fmt::Formatter<'_>) -> fmt::Result {

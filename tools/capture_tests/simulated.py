@@ -103,9 +103,15 @@ def data_text(first, second, third):
     return ", ".join(words)
 
 
+def time_text(moment):
+    if moment == 0xFFFFFFFF:
+        return "none"
+    return f"{'+' if moment <= 0x20000000 else ''}{moment}" if moment else "Unknown"
+
+
 def must_print(record, event):
     """The line of a record, by docs/SCOPE.md, with the text of its event."""
-    id, kind, moment, data = f"id={number(record[:2]):04X}", record[2], number(record[3:7]) or "Unknown", record.hex().upper()
+    id, kind, moment, data = f"id={number(record[:2]):04X}", record[2], time_text(number(record[3:7])), record.hex().upper()
     if 0xC0 <= kind <= 0xDF:
         return f"{id} type={kind:02X} time={moment} maker={number(record[7:10])} data={data[20:]}"
     if 0xE0 <= kind:
@@ -127,8 +133,8 @@ def event_of(record):
     return event_type, record[10] if event_type == 0x6F else None, record[13] & 0x0F
 
 
-FIELDS = re.compile(r"id=(?P<id>\w+) (?:refused=(?P<refused>\d) value=(?P<value>\w+)|type=(?P<kind>\w+) (?:time=(?P<moment>\w+) maker=(?P<maker>\d+) )?data=(?P<bytes>\w+)"
-                    r"|time=(?P<time>\w+) gen=(?P<by>i2c|sw):(?P<address>\w+) chan=(?P<channel>\w)(?: lun=(?P<unit>\w))? rev=(?P<revision>\w+) sensor=(?P<sensor>\w+)"
+FIELDS = re.compile(r"id=(?P<id>\w+) (?:refused=(?P<refused>\d) value=(?P<value>\w+)|type=(?P<kind>\w+) (?:time=(?P<moment>\+?\w+) maker=(?P<maker>\d+) )?data=(?P<bytes>\w+)"
+                    r"|time=(?P<time>\+?\w+) gen=(?P<by>i2c|sw):(?P<address>\w+) chan=(?P<channel>\w)(?: lun=(?P<unit>\w))? rev=(?P<revision>\w+) sensor=(?P<sensor>\w+)"
                     r" number=(?P<number>\w+) dir=(?P<direction>\w+) type=(?P<type>\w+) event=(?P<event>.*) data=(?P<data>.*))")
 
 
@@ -242,7 +248,7 @@ def the_log_is_read_whole_and_in_order():
     same(it.slots, [*zip([0, *ids[1:]], [*ids[1:], 0xFFFF], (record for _, _, record in it.slots))])
     for id, record, (_, _, stands) in zip(ids, it.records, it.slots):
         if record[2] < 0xE0:  # the controller writes the time
-            since = number(stands[3:7]) - number(record[3:7])
+            since = (number(stands[3:7]) - number(record[3:7])) % 2 ** 32
             expect(0 <= since <= it.late, "record", id, "is late by", since)
             record = record[:3] + stands[3:7] + record[7:]
         same(stands, id.to_bytes(2, "little") + record[2:])
@@ -265,9 +271,9 @@ def the_examples_are_printed_as_they_are_stored():
     it = simulator()
     stored = [line for _, _, printed in examples() for line in printed[:-1]]
     for line, must in zip(it.lines, stored):
-        id, moment = (re.search(rf"\b{name}=\w+", line) for name in ("id", "time"))
+        id, moment = (re.search(rf"\b{name}=\+?\w+", line) for name in ("id", "time"))
         must = re.sub(r"^id=\w+", id[0], must)
-        same(line, re.sub(r"\btime=\w+", moment[0], must) if moment else must)
+        same(line, re.sub(r"\btime=\+?\w+", moment[0], must) if moment else must)
 
 
 def said_by_ipmitool(it):
@@ -282,15 +288,23 @@ EVENT_TYPES = {0x00: "Unspecified", 0x01: "Threshold", 0x6F: "Sensor-specific Di
                **dict.fromkeys(range(0x70, 0x80), "OEM")}
 
 
+def shown_by_ipmitool(moment):
+    """Date and time, from the text that seldump prints. The last second since the log was initialised it takes for a date, of another zone than all others."""
+    if moment == "none":
+        return "Unspecified", "Unspecified"
+    seconds = 0 if moment == "Unknown" else int(moment)
+    if seconds < 0x20000000:
+        return "Pre-Init", f"{seconds:010}"
+    shown = datetime.datetime.fromtimestamp(seconds, datetime.timezone.utc)
+    return f"{shown:%m/%d/%y}", f"{shown:%H:%M:%S} {'GMT' if moment.startswith('+') else 'UTC'}"
+
+
 def in_words_of_ipmitool(line, sensors, said):
     """What ipmitool must say of a record, from its line."""
     stands = fields_of(line)
     must = {"SEL Record ID": stands["id"].lower()}
     if "time" in stands or "moment" in stands:
-        moment = stands.get("time", stands.get("moment"))
-        moment = 0 if moment == "Unknown" else int(moment)
-        shown = datetime.datetime.fromtimestamp(moment, datetime.timezone.utc)
-        must["Date"], must["Time"] = ("Pre-Init", f"{moment:010}") if moment < 0x20000000 else (f"{shown:%m/%d/%y}", f"{shown:%H:%M:%S} UTC")
+        must["Date"], must["Time"] = shown_by_ipmitool(stands.get("time", stands.get("moment")))
     if stands.get("refused") == "2":
         return {**must, "Record Type": stands["value"].lower()}
     if stands.get("refused") == "3":
@@ -514,6 +528,33 @@ class Proxy:
             return packet
         message = message[:6] + self.change(message[6:-1])
         return packet[:13] + bytes([len(message) + 1]) + message + bytes([-sum(message[3:]) & 0xFF])
+
+
+TIMES = [  # what seldump, ipmitool and FreeIPMI print, the latter two as date and time: docs/DIFFERENCES.md has the same
+    (0x00000000, "Unknown", "Pre-Init,0000000000", "PostInit,PostInit"),
+    (0x00000001, "+1", "Pre-Init,0000000001", "PostInit,PostInit"),
+    (0x1FFFFFFF, "+536870911", "Pre-Init,0536870911", "PostInit,PostInit"),
+    (0x20000000, "+536870912", "01/05/87,18:48:32 GMT", "PostInit,PostInit"),
+    (0x20000001, "536870913", "01/05/87,18:48:33 UTC", "Jan-05-1987,18:48:33"),
+    (0xFFFFFFFE, "4294967294", "02/07/06,06:28:14 UTC", "Feb-07-2106,06:28:14"),
+    (0xFFFFFFFF, "none", "Unspecified,Unspecified", "Unspec.,Unspec."),
+]
+
+
+@test
+def times_at_the_edges():
+    """Of one record, as three readers print its time; the controller's own clock cannot be stopped at an edge, so the answer is changed on its way."""
+    started(Simulator).restart(forgets=True)  # so that its ids begin with 1 again
+    it = small(5, seed=12)
+    for moment, *must in TIMES:
+        file = it.path / f"time{moment:08X}.txt"
+        with Proxy(it, lambda answer: answer[:3] + b"\x05\x00\x02" + moment.to_bytes(4, "little") + bytes(9)) as proxy:
+            it.run(CAPTURE, "live", file, *proxy.ipmitool)
+            listed = it.run("ipmitool", *proxy.ipmitool, "-c", "sel", "list").stdout
+            logged = it.run("ipmi-sel", *proxy.freeipmi, "--ignore-sdr-cache", "--comma-separated-output").stdout
+        printed = fields_of(printed_for(file.read_text())[4])["time"]
+        rows = ([*map(str.strip, row[1:3])] for rows in (listed, logged) for row in csv.reader(rows.splitlines()) if row[0] == "5")
+        same((moment, printed, *map(",".join, rows)), (moment, *must))
 
 
 BROKEN = {  # how a log is broken at record 0005h, and what tools/capture must make of it: status, words, verdict

@@ -7,14 +7,13 @@ use native.Mathlib.Omega.{arith}
 use borrow.Author.Tests.{eqb-true, eq-eqb, ne-eqb, le-leb, lt-leb}
 use lib.Dec.{eqb, ltb}
 use lib.ListN.{length, drop, length-take}
-use Rattle.field.specs.Bits.{Bytes, byteAt, le32At}
+use Rattle.field.specs.Bits.{Bytes, byteAt}
 use Rattle.field.specs.Choose.{if_then_else_, within}
 use Rattle.field.specs.Handed.{Handed}
 use Rattle.field.specs.Rows.{LongEnough, long, tooShort}
 use Rattle.field.proofs.Choices.{either}
 use Rattle.connection.specs.Channel.{validChannel}
-use Rattle.storage.specs.Time.{TimeLength}
-use Rattle.storage.proofs.Laws.{time-length}
+use Rattle.storage.proofs.Laws.{time-at, time-length}
 use Rattle.event_data.proofs.Room.{data-short}
 use Rattle.event_offset.specs.Event.{eventRoom}
 use Rattle.event_offset.proofs.Classes.{event-length}
@@ -119,9 +118,6 @@ answer-fits AnswerKind.Clear s = decided-has _ _ _ (λ z. omega arith)
 
 -- any kind: what is known of the bytes is asked for only where the kind is a text
 module _ (s : List ℕ) where
-  time-short : Bytes (length s) s → TimeLength (le32At s 0)
-  time-short b = let each = b .each in time-length (le32At s 0) (omega (arith, each 0, each 1, each 2, each 3))
-
   kind-fits : (kind : Kind) → (isText kind ≡ true → Bytes (length s) s) → Fits (if isText kind then eventRoom else flatRoom) (flatBy kind s)
   unfolding recordPartFlat eventDataFlat recordIdFlat idFlat requestFlat entryTextFlat eventDataTextFlat eventTextFlat timeTextFlat logTimeTextFlat
   kind-fits (Kind.Answer kind) bs = answer-fits kind s
@@ -131,8 +127,8 @@ module _ (s : List ℕ) where
   kind-fits (Kind.Other Question.EventData) bs = either (Fits flatRoom) (eqb (length s) 3) _ _ (omega arith) tt
   kind-fits (Kind.Other Question.EventDataText) bs = either (Fits eventRoom) (eqb (length s) 3) _ _ (omega (arith, data-short s (bs refl .each 1) (bs refl .each 2))) tt
   kind-fits (Kind.Other Question.EventText) bs = either (Fits eventRoom) (eqb (length s) 3) _ _ (event-length _ _ _) tt
-  kind-fits (Kind.Other Question.TimeText) bs = either (Fits eventRoom) (eqb (length s) 4) _ _ (omega (arith, time-short (bs refl) .ported)) tt
-  kind-fits (Kind.Other Question.LogTimeText) bs = either (Fits eventRoom) (eqb (length s) 4) _ _ (omega (arith, time-short (bs refl) .log)) tt
+  kind-fits (Kind.Other Question.TimeText) bs = either (Fits eventRoom) (eqb (length s) 4) _ _ (omega (arith, time-at s 0 (bs refl .each) .ported)) tt
+  kind-fits (Kind.Other Question.LogTimeText) bs = either (Fits eventRoom) (eqb (length s) 4) _ _ (omega (arith, time-at s 0 (bs refl .each) .log)) tt
   kind-fits (Kind.Other Question.RecordId) bs = either (Fits flatRoom) (eqb (length s) 2) _ _ (omega arith) tt
   kind-fits (Kind.Other Question.Request) bs =
       either (Fits flatRoom) (eqb (length s) (questionLength (byteAt s 0))) _ _ (request-fits flatRoom (omega arith) _ _ _) tt

@@ -14,6 +14,7 @@ use Rattle.field.proofs.Placed.{placed-front}
 use Rattle.text.specs.Text.{bytes}
 use Rattle.storage.specs.Time.{timeText}
 use Rattle.event_data.specs.DataText.{data2Text, data3Text, dataText, joined, unlessFFh}
+use Rattle.event_data.proofs.Joined.{joined-both, joined-second, joined-third, unless-said}
 use Rattle.event_offset.specs.Event.{eventText, textsOf}
 use Rattle.event_offset.specs.Tables.{table-42-2, table-42-3}
 use Rattle.event_offset.proofs.Holding.{lent}
@@ -70,44 +71,18 @@ event-texts =
       filled = filled-gives;
     }
 
-said : (v : ℕ) (text : List ℕ) → (v ≡ 0xFF → ⊥) → unlessFFh v text ≡ text
-unfolding unlessFFh
-said v text f = rw (ne-eqb v 0xFF f)
-
--- an empty text has no length, and one that is not has some
-nonempty : (t : List ℕ) → (t ≡ [] → ⊥) → eqb (length t) 0 ≡ false
-nonempty [] f = absurd (f refl)
-nonempty (c ∷ t) f = ne-eqb (length (c ∷ t)) 0 (λ e. omega arith)
-
-module _ (t u : List ℕ) where
-  joined-third : t ≡ [] → joined t u ≡ u
-  unfolding joined
-  joined-third e = rw e
-
-  joined-second : u ≡ [] → joined t u ≡ t
-  unfolding joined
-  joined-second e = rw e (by t)
-    where
-      by : (t : List ℕ) → (if eqb (length t) 0 then [] else t) ≡ t
-      by [] = refl
-      by (c ∷ t) = rw (ne-eqb (length (c ∷ t)) 0 (λ e. omega arith))
-
-  joined-both : (t ≡ [] → ⊥) → (u ≡ [] → ⊥) → joined t u ≡ t ++ (bytes ", " ++ u)
-  unfolding joined
-  joined-both f g = rw (nonempty t f, nonempty u g)
-
 pub data-texts : DataTexts
 unfolding dataText unlessFFh
 data-texts =
     record {
-      reading = λ v. said v _;
-      oem2 = λ v. said v _;
-      ext2 = λ v. said v _;
+      reading = λ v. unless-said v _;
+      oem2 = λ v. unless-said v _;
+      ext2 = λ v. unless-said v _;
       nothing2 = refl;
       secondFF = (refl, refl, refl);
-      threshold = λ v. said v _;
-      oem3 = λ v. said v _;
-      ext3 = λ v. said v _;
+      threshold = λ v. unless-said v _;
+      oem3 = λ v. unless-said v _;
+      ext3 = λ v. unless-said v _;
       nothing3 = refl;
       thirdFF = (refl, refl, refl);
       third = λ d. joined-third (data2Text (d .«data2_type»)) (data3Text (d .«data3_type»));

@@ -13,6 +13,8 @@ use Rattle.storage.specs.Alloc.{parseAlloc}
 use Rattle.storage.specs.Time.{logTimeText, timeText}
 use Rattle.event_data.specs.DataText.{dataText, joined, unlessFFh}
 use Rattle.event_data.specs.EventData.{byKind, eventDataOf}
+use Rattle.typed_data.specs.Table.{classOf, toldOf, typedOf}
+use Rattle.typed_data.specs.TypedText.{typedText}
 use Rattle.event_offset.specs.Event.{eventText}
 use Rattle.sel.specs.Entry.{parseEntry, plainRecord, stampedRecord, systemBy, systemRecord}
 use Rattle.get_entry.specs.GetEntry.{entryRequest, parseAnswer, recordPart}
@@ -20,13 +22,13 @@ use Rattle.sel_commands.specs.Clear.{clearRequest, parseClear}
 use Rattle.sel_commands.specs.Info.{howMany, parseInfo}
 use Rattle.sel_commands.specs.Reserve.{parseReserve}
 use Rattle.flat_form.specs.Form.{Flat, decided, flatAnswer, flatLeaves, noQuestion, refused, said, taken}
-use Rattle.flat_record.specs.Event.{eventDataFlat}
+use Rattle.flat_record.specs.Event.{eventDataFlat, typedDataFlat}
 use Rattle.flat_record.specs.Records.{entryFlat, getEntryFlat, plainFlat, recordFlat, recordPartFlat, stampedFlat, systemFlat}
 use Rattle.flat_answers.specs.Answers.{allocationFlat, clearFlat, idFlat, infoFlat, recordIdFlat, reserveFlat}
 use Rattle.flat.specs.Kinds.{flatOf}
 use Rattle.flat.specs.Letters.{kindOf}
 use Rattle.flat.specs.Requests.{clearOf, questionLength, requestFlat, requestOf}
-use Rattle.flat.specs.Texts.{entryTextFlat, eventDataTextFlat, eventTextFlat, logTimeTextFlat, timeTextFlat}
+use Rattle.flat.specs.Texts.{entryTextFlat, eventDataTextFlat, eventTextFlat, logTimeTextFlat, timeTextFlat, typedDataTextFlat}
 
 data Case : Type 0 where
   case : Char → List ℕ → Flat → Case
@@ -81,13 +83,17 @@ events : Right
     (case "d" (0x69 ∷ 0x5A ∷ 0x55 ∷ []) (taken (0x09 ∷ 1 ∷ 0x5A ∷ 2 ∷ 0x55 ∷ []))
     ∷ case "d" (0x69 ∷ 0x5A ∷ []) noQuestion
     ∷ case "v" (0x59 ∷ 0x5A ∷ 0x55 ∷ []) (taken (bytes "reading=90, threshold=85"))
+    -- event type 6Fh: a previous state, and a reserved kind
+    ∷ case "D" (0x6F ∷ 0x50 ∷ 0x12 ∷ 0xFF ∷ []) (taken (0 ∷ 4 ∷ 0x12 ∷ 5 ∷ 0 ∷ []))
+    ∷ case "D" (0x50 ∷ 0x12 ∷ 0xFF ∷ []) noQuestion
+    ∷ case "V" (0x6F ∷ 0x50 ∷ 0x12 ∷ 0xFF ∷ []) (taken (bytes "prev=0x12"))
     ∷ case "x" (0x6F ∷ 0x22 ∷ 0x0E ∷ []) (taken (bytes "Unknown"))
     ∷ case "t" (0xE8 ∷ 0x03 ∷ 0 ∷ 0 ∷ []) (taken (bytes "1000"))
     ∷ case "s" (0xE8 ∷ 0x03 ∷ 0 ∷ 0 ∷ []) (taken (bytes "+1000"))
     ∷ case "s" (0xE8 ∷ 0x03 ∷ 0 ∷ []) noQuestion
     ∷ case "w" (0x69 ∷ 0x5A ∷ 0x55 ∷ []) noQuestion
     ∷ [])
-unfolding kindOf eventDataFlat eventDataTextFlat eventDataOf byKind dataText unlessFFh joined decimal decimalIn digitOf eventTextFlat eventText timeTextFlat timeText logTimeTextFlat logTimeText
+unfolding kindOf typedDataFlat typedDataTextFlat typedOf classOf toldOf typedText eventDataFlat eventDataTextFlat eventDataOf byKind dataText unlessFFh joined decimal decimalIn digitOf eventTextFlat eventText timeTextFlat timeText logTimeTextFlat logTimeText
 events = refl
 
 requests : Right

@@ -15,6 +15,7 @@ use Rattle.field.proofs.Choices.{either}
 use Rattle.connection.specs.Channel.{validChannel}
 use Rattle.storage.proofs.Laws.{time-at, time-length}
 use Rattle.event_data.proofs.Room.{data-short}
+use Rattle.typed_data.proofs.Room.{typed-short}
 use Rattle.event_offset.specs.Event.{eventRoom}
 use Rattle.event_offset.proofs.Classes.{event-length}
 use Rattle.ids.specs.Ids.{recordId, reservationId}
@@ -26,7 +27,7 @@ use Rattle.sel_commands.specs.declared.clear.ClearSelAction.{ClearSelAction}
 use Rattle.answers.specs.declared.AnswerKind.{AnswerKind}
 use Rattle.answers.proofs.Requests.{request-lengths}
 use Rattle.flat_form.specs.Form.{Flat, decided, refused, taken}
-use Rattle.flat_record.specs.Event.{eventDataFlat}
+use Rattle.flat_record.specs.Event.{eventDataFlat, typedDataFlat}
 use Rattle.flat_record.specs.Records.{entryFlat, getEntryFlat, plainFlat, recordFlat, recordPartFlat, stampedFlat}
 use Rattle.flat_record.proofs.Laws.{plain-length, stamped-length, system-length}
 use Rattle.flat_answers.specs.Answers.{allocationFlat, clearFlat, idFlat, infoFlat, recordIdFlat, reserveFlat}
@@ -34,7 +35,7 @@ use Rattle.flat.specs.Kinds.{answerFlat, flatBy}
 use Rattle.flat.specs.Letters.{isText, kindOf}
 use Rattle.flat.specs.Requests.{clearOf, questionLength, requestFlat, requestOf}
 use Rattle.flat.specs.Sizes.{Sizes, flatRoom, requestRoom}
-use Rattle.flat.specs.Texts.{entryTextFlat, eventDataTextFlat, eventTextFlat, logTimeTextFlat, timeTextFlat}
+use Rattle.flat.specs.Texts.{entryTextFlat, eventDataTextFlat, eventTextFlat, logTimeTextFlat, timeTextFlat, typedDataTextFlat}
 use Rattle.flat.specs.declared.Kind.{Kind}
 use Rattle.flat.specs.declared.Question.{Question}
 
@@ -119,13 +120,16 @@ answer-fits AnswerKind.Clear s = decided-has _ _ _ (λ z. omega arith)
 -- any kind: what is known of the bytes is asked for only where the kind is a text
 module _ (s : List ℕ) where
   kind-fits : (kind : Kind) → (isText kind ≡ true → Bytes (length s) s) → Fits (if isText kind then eventRoom else flatRoom) (flatBy kind s)
-  unfolding recordPartFlat eventDataFlat recordIdFlat idFlat requestFlat entryTextFlat eventDataTextFlat eventTextFlat timeTextFlat logTimeTextFlat
+  unfolding recordPartFlat eventDataFlat typedDataFlat typedDataTextFlat recordIdFlat idFlat requestFlat entryTextFlat eventDataTextFlat eventTextFlat timeTextFlat logTimeTextFlat
   kind-fits (Kind.Answer kind) bs = answer-fits kind s
   kind-fits (Kind.Other Question.EntryText) bs =
       decided-has _ _ _ (λ z. either (λ (l : List ℕ). length l ≤ eventRoom) (eqb (typeAt s) 0x02) _ _ (event-length _ _ _) (omega arith))
   kind-fits (Kind.Other Question.RecordPart) bs = omega (arith, part-short s)
   kind-fits (Kind.Other Question.EventData) bs = either (Fits flatRoom) (eqb (length s) 3) _ _ (omega arith) tt
   kind-fits (Kind.Other Question.EventDataText) bs = either (Fits eventRoom) (eqb (length s) 3) _ _ (omega (arith, data-short s (bs refl .each 1) (bs refl .each 2))) tt
+  kind-fits (Kind.Other Question.TypedData) bs = either (Fits flatRoom) (eqb (length s) 4) _ _ (omega arith) tt
+  kind-fits (Kind.Other Question.TypedDataText) bs =
+      either (Fits eventRoom) (eqb (length s) 4) _ _ (omega (arith, typed-short (byteAt s 0) (byteAt s 1 ∷ byteAt s 2 ∷ byteAt s 3 ∷ []) (bs refl .each 2) (bs refl .each 3))) tt
   kind-fits (Kind.Other Question.EventText) bs = either (Fits eventRoom) (eqb (length s) 3) _ _ (event-length _ _ _) tt
   kind-fits (Kind.Other Question.TimeText) bs = either (Fits eventRoom) (eqb (length s) 4) _ _ (omega (arith, time-at s 0 (bs refl .each) .ported)) tt
   kind-fits (Kind.Other Question.LogTimeText) bs = either (Fits eventRoom) (eqb (length s) 4) _ _ (omega (arith, time-at s 0 (bs refl .each) .log)) tt
@@ -148,6 +152,7 @@ sizes =
       allocation = λ s flat. of-taken _ (allocation-has s);
       event = event-length;
       eventData = λ b1 b2 b3. data-short (b1 ∷ b2 ∷ b3 ∷ []);
+      typedData = λ event b1 b2 b3. typed-short event (b1 ∷ b2 ∷ b3 ∷ []);
       time = time-length;
       request = λ command reservation argument flat. of-taken _ (request-fits requestRoom (omega arith) command reservation argument);
     }

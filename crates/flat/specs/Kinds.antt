@@ -3,12 +3,12 @@ use Prim.Native.Nat.{ℕ}
 use mathlib.Core.List.{List}
 use Rattle.answers.specs.declared.AnswerKind.{AnswerKind}
 use Rattle.flat_form.specs.Form.{Flat, noQuestion}
-use Rattle.flat_record.specs.Event.{eventDataFlat}
+use Rattle.flat_record.specs.Event.{eventDataFlat, typedDataFlat}
 use Rattle.flat_record.specs.Records.{entryFlat, getEntryFlat, recordPartFlat}
 use Rattle.flat_answers.specs.Answers.{allocationFlat, clearFlat, infoFlat, recordIdFlat, reserveFlat}
 use Rattle.flat.specs.Letters.{kindOf}
 use Rattle.flat.specs.Requests.{requestFlat}
-use Rattle.flat.specs.Texts.{entryTextFlat, eventDataTextFlat, eventTextFlat, logTimeTextFlat, timeTextFlat}
+use Rattle.flat.specs.Texts.{entryTextFlat, eventDataTextFlat, eventTextFlat, logTimeTextFlat, timeTextFlat, typedDataTextFlat}
 use Rattle.flat.specs.declared.Kind.{Kind}
 use Rattle.flat.specs.declared.Question.{Question}
 
@@ -25,6 +25,8 @@ otherFlat Question.EntryText s = entryTextFlat s
 otherFlat Question.RecordPart s = recordPartFlat s
 otherFlat Question.EventData s = eventDataFlat s
 otherFlat Question.EventDataText s = eventDataTextFlat s
+otherFlat Question.TypedData s = typedDataFlat s
+otherFlat Question.TypedDataText s = typedDataTextFlat s
 otherFlat Question.EventText s = eventTextFlat s
 otherFlat Question.TimeText s = timeTextFlat s
 otherFlat Question.LogTimeText s = logTimeTextFlat s

@@ -8,6 +8,8 @@ use Rattle.field.specs.Bits.{Bytes}
 use Rattle.storage.specs.Time.{TimeLength}
 use Rattle.event_data.specs.DataText.{dataRoom, dataText}
 use Rattle.event_data.specs.EventData.{eventDataOf}
+use Rattle.typed_data.specs.Table.{typedOf}
+use Rattle.typed_data.specs.TypedText.{typedText}
 use Rattle.event_offset.specs.Event.{eventRoom, eventText}
 use Rattle.sel.specs.Entry.{typeAt}
 use Rattle.flat_form.specs.Form.{taken}
@@ -38,5 +40,6 @@ pub record Sizes : Type 0 where
   -- the texts by name, and the payload of a request
   pub event : (event sensor offset : ℕ) → length (eventText event sensor offset) ≤ eventRoom
   pub eventData : (b1 b2 b3 : ℕ) → b2 < 256 → b3 < 256 → length (dataText (eventDataOf (b1 ∷ b2 ∷ b3 ∷ []))) ≤ dataRoom
+  pub typedData : (event b1 b2 b3 : ℕ) → b2 < 256 → b3 < 256 → length (typedText (typedOf event (b1 ∷ b2 ∷ b3 ∷ []))) ≤ dataRoom
   pub time : (t : ℕ) → t < 2 ^ 32 → TimeLength t
   pub request : (command reservation argument : ℕ) (flat : List ℕ) → requestOf command reservation argument ≡ taken flat → length flat ≤ requestRoom

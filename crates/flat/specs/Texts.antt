@@ -1,6 +1,6 @@
 -- The texts in the flat form (docs/SCOPE.md, "The flat form"), by the bytes of the question. Assumes nothing.
 use Prim.Native.Nat.{ℕ}
-use mathlib.Core.List.{List, []}
+use mathlib.Core.List.{List, [], _∷_}
 use lib.Dec.{eqb}
 use lib.ListN.{length}
 use Rattle.field.specs.Bits.{byteAt, bits, le32At}
@@ -9,6 +9,8 @@ use Rattle.connection.specs.Channel.{validChannel}
 use Rattle.storage.specs.Time.{logTimeText, timeText}
 use Rattle.event_data.specs.DataText.{dataText}
 use Rattle.event_data.specs.EventData.{eventDataOf}
+use Rattle.typed_data.specs.Table.{typedOf}
+use Rattle.typed_data.specs.TypedText.{typedText}
 use Rattle.event_offset.specs.Event.{eventText}
 use Rattle.sel.specs.Entry.{typeAt}
 use Rattle.sel.specs.Numbers.{entryHands}
@@ -23,6 +25,11 @@ entryTextFlat s =
 -- of three bytes of event data
 unfoldable pub eventDataTextFlat : List ℕ → Flat
 eventDataTextFlat s = if eqb (length s) 3 then taken (dataText (eventDataOf s)) else noQuestion
+
+-- of byte 12 of a record and three bytes of event data, by the event type
+unfoldable pub typedDataTextFlat : List ℕ → Flat
+typedDataTextFlat s =
+    if eqb (length s) 4 then taken (typedText (typedOf (byteAt s 0) (byteAt s 1 ∷ byteAt s 2 ∷ byteAt s 3 ∷ []))) else noQuestion
 
 -- of an event: event type, sensor type, offset
 unfoldable pub eventTextFlat : List ℕ → Flat

@@ -28,6 +28,9 @@ pub enum Question {
     // Three bytes of event data.
     EventData,
     EventDataText,
+    // Byte 12 of a record, and then three bytes of event data, which are read by its event type.
+    TypedData,
+    TypedDataText,
     // Event type, sensor type, offset.
     EventText,
     // A time of four bytes: as the Rust has it, and as the log's lines do.
@@ -54,6 +57,8 @@ pub fn kind_of(letter: u8) -> Kind
         b'p' => Kind::Other(Question::RecordPart),
         b'd' => Kind::Other(Question::EventData),
         b'v' => Kind::Other(Question::EventDataText),
+        b'D' => Kind::Other(Question::TypedData),
+        b'V' => Kind::Other(Question::TypedDataText),
         b'x' => Kind::Other(Question::EventText),
         b't' => Kind::Other(Question::TimeText),
         b's' => Kind::Other(Question::LogTimeText),
@@ -82,6 +87,8 @@ fn text_question(question: Question) -> bool
         Question::RecordPart => false,
         Question::EventData => false,
         Question::EventDataText => true,
+        Question::TypedData => false,
+        Question::TypedDataText => true,
         Question::EventText => true,
         Question::TimeText => true,
         Question::LogTimeText => true,
@@ -109,6 +116,8 @@ fn other(question: Question, data: &[u8], out: &mut [u8]) -> SelAnswer
         Question::RecordPart => flat_record::record_part(data, out),
         Question::EventData => flat_record::event_data(data, out),
         Question::EventDataText => texts::event_data_text(data, out),
+        Question::TypedData => flat_record::typed_data(data, out),
+        Question::TypedDataText => texts::typed_data_text(data, out),
         Question::EventText => texts::event_text(data, out),
         Question::TimeText => texts::time_text(data, out),
         Question::LogTimeText => texts::log_time_text(data, out),

@@ -8,8 +8,9 @@ use flat_form::refused;
 use sel::Entry;
 use sel::EntryAnswer;
 use storage::Timestamp;
+use typed_data::TypedData;
 ghost use Rattle.flat_form.specs.Form.{Gives};
-ghost use Rattle.flat.specs.Texts.{entryTextFlat, eventDataTextFlat, eventTextFlat, logTimeTextFlat, timeTextFlat};
+ghost use Rattle.flat.specs.Texts.{entryTextFlat, eventDataTextFlat, eventTextFlat, logTimeTextFlat, timeTextFlat, typedDataTextFlat};
 
 // The text of a record's event, empty for an OEM record.
 pub(crate) fn entry_text(data: &[u8], out: &mut [u8]) -> SelAnswer
@@ -34,6 +35,18 @@ pub(crate) fn event_data_text(data: &[u8], out: &mut [u8]) -> SelAnswer
         return no_question();
     }
     let d = EventData::parse(&[data[0], data[1], data[2]]);
+    let w = d.write_text(out);
+    of_written(w)
+}
+
+// The text of event data by event type: byte 12 of a record, and then bytes 13 to 15.
+pub(crate) fn typed_data_text(data: &[u8], out: &mut [u8]) -> SelAnswer
+    ensures { λ r. ⌜ Gives (typedDataTextFlat (now («data» .entry))) (now (out .entry)) r (now (out .exit)) ⌝ }
+{
+    if data.len() != 4 {
+        return no_question();
+    }
+    let d = TypedData::parse(data[0], &[data[1], data[2], data[3]]);
     let w = d.write_text(out);
     of_written(w)
 }

@@ -4,13 +4,13 @@ use Rattle.flat.specs.Letters.{kindOf}
 use Rattle.flat.proofs.kind_of.Statement.{statement}
 use Rattle.flat.proofs.kind_of.Tie as tie
 
-rest : tie.Need-returns-16
+rest : tie.Need-returns-18
 unfolding kindOf
 rest c =
     let r = c .match .rest in
-    let answers = r .0 .0 .0 .0 .0 .0 .0 .0 .0 in
+    let answers = r .0 .0 .0 .0 .0 .0 .0 .0 .0 .0 .0 in
     rw (ne-eqb _ _ (answers .0 .0 .0 .0 .0 .1), ne-eqb _ _ (answers .0 .0 .0 .0 .1), ne-eqb _ _ (answers .0 .0 .0 .1), ne-eqb _ _ (answers .0 .0 .1), ne-eqb _ _ (answers .0 .1), ne-eqb _ _ (answers .1))
-    (rw (ne-eqb _ _ (r .0 .0 .0 .0 .0 .0 .0 .0 .1), ne-eqb _ _ (r .0 .0 .0 .0 .0 .0 .0 .1), ne-eqb _ _ (r .0 .0 .0 .0 .0 .0 .1), ne-eqb _ _ (r .0 .0 .0 .0 .0 .1), ne-eqb _ _ (r .0 .0 .0 .0 .1), ne-eqb _ _ (r .0 .0 .0 .1), ne-eqb _ _ (r .0 .0 .1), ne-eqb _ _ (r .0 .1), ne-eqb _ _ (r .1)))
+    (rw (ne-eqb _ _ (r .0 .0 .0 .0 .0 .0 .0 .0 .0 .0 .1), ne-eqb _ _ (r .0 .0 .0 .0 .0 .0 .0 .0 .0 .1), ne-eqb _ _ (r .0 .0 .0 .0 .0 .0 .0 .0 .1), ne-eqb _ _ (r .0 .0 .0 .0 .0 .0 .0 .1), ne-eqb _ _ (r .0 .0 .0 .0 .0 .0 .1), ne-eqb _ _ (r .0 .0 .0 .0 .0 .1), ne-eqb _ _ (r .0 .0 .0 .0 .1), ne-eqb _ _ (r .0 .0 .0 .1), ne-eqb _ _ (r .0 .0 .1), ne-eqb _ _ (r .0 .1), ne-eqb _ _ (r .1)))
 
 pub kind-of-spec : {M : Type 1} → statement M
 unfolding kindOf
@@ -32,4 +32,6 @@ kind-of-spec =
     (λ c. rw (c .match .keys13))
     (λ c. rw (c .match .keys14))
     (λ c. rw (c .match .keys15))
+    (λ c. rw (c .match .keys16))
+    (λ c. rw (c .match .keys17))
     rest)

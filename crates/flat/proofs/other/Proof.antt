@@ -30,10 +30,20 @@ returns-8 c = rw (c .before .before .before .before .enum-told8 .given .1) (sear
 returns-9 : tie.Need-returns-9
 returns-9 c = rw (c .before .before .before .before .enum-told9 .given .1) (search needs)
 
+returns-10 : tie.Need-returns-10
+returns-10 c = rw (c .before .before .before .before .enum-told10 .given .1) (search needs)
+
+returns-11 : tie.Need-returns-11
+returns-11 c = rw (c .before .before .before .before .enum-told11 .given .1) (search needs)
+
 pub other-spec : {M : Type 1} → statement M
 other-spec =
     tie.close
     (tie.spec
+    (λ c. search needs)
+    (λ c κs. search needs)
+    (λ c. search needs)
+    (λ c κs. search needs)
     (λ c. search needs)
     (λ c κs. search needs)
     (λ c. search needs)
@@ -69,4 +79,8 @@ other-spec =
     (λ c. search needs)
     returns-8
     (λ c. search needs)
-    returns-9)
+    returns-9
+    (λ c. search needs)
+    returns-10
+    (λ c. search needs)
+    returns-11)

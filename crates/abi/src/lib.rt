@@ -2,6 +2,7 @@
 mod connections;
 mod same;
 mod texts;
+mod typed;
 mod walk;
 
 use answers::AnswerKind;
@@ -18,6 +19,9 @@ pub use texts::sel_event_text_from;
 pub use texts::sel_log_time_text;
 pub use texts::sel_texts;
 pub use texts::sel_time_text;
+pub use texts::sel_typed_text;
+pub use typed::SelTypedData;
+pub use typed::sel_typed_data;
 pub use walk::SelFound;
 pub use walk::SelWalk;
 pub use walk::sel_find;

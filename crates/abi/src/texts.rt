@@ -3,10 +3,13 @@ use event_data::EventData;
 use flat_form::SelAnswer;
 use flat_form::of_written;
 use storage::Timestamp;
+use typed_data::TypedData;
 ghost use mathlib.Core.List.{[], _∷_};
 ghost use Rattle.storage.specs.Time.{logTimeText, timeText};
 ghost use Rattle.event_data.specs.DataText.{dataText};
 ghost use Rattle.event_data.specs.EventData.{eventDataOf};
+ghost use Rattle.typed_data.specs.Table.{typedOf};
+ghost use Rattle.typed_data.specs.TypedText.{typedText};
 ghost use Rattle.event_offset.specs.Event.{eventText};
 ghost use Rattle.event_offset.specs.Places.{lentText};
 ghost use Rattle.flat_form.specs.Form.{Gives, taken};
@@ -64,6 +67,21 @@ pub extern "C" fn sel_data_text(b1: u8, b2: u8, b3: u8, out: &mut [u8]) -> SelAn
     ensures { λ r. ⌜ Gives (taken (dataText (eventDataOf (b1 ∷ b2 ∷ b3 ∷ [])))) (now (out .entry)) r (now (out .exit)) ⌝ }
 {
     let d = EventData::parse(&[b1, b2, b3]);
+    let w = d.write_text(out);
+    of_written(w)
+}
+
+#[no_mangle]
+pub extern "C" fn sel_typed_text(
+    event_type: u8,
+    b1: u8,
+    b2: u8,
+    b3: u8,
+    out: &mut [u8],
+) -> SelAnswer
+    ensures { λ r. ⌜ Gives (taken (typedText (typedOf «event_type» (b1 ∷ b2 ∷ b3 ∷ [])))) (now (out .entry)) r (now (out .exit)) ⌝ }
+{
+    let d = TypedData::parse(event_type, &[b1, b2, b3]);
     let w = d.write_text(out);
     of_written(w)
 }

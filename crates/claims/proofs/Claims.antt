@@ -1,8 +1,10 @@
 -- The claims hold. Assumes nothing.
 use Rattle.storage.proofs.LogTimes.{log-times}
+use Rattle.typed_data.proofs.Readings.{readings}
 use Rattle.event_offset.proofs.SharedTexts.{shared-texts}
 use Rattle.flat_record.proofs.Parsed.{flat-of-parsed}
 use Rattle.record_line.proofs.Bytes.{same-line}
+use Rattle.record_line.proofs.PrintedData.{printed-data}
 use Rattle.record_line.proofs.PrintedTime.{printed-time}
 use Rattle.claims.specs.Claims.{Claims}
 use Rattle.claims.specs.Demand2.{Demand2}
@@ -40,4 +42,6 @@ claims =
       sharedTexts = shared-texts;
       logTimes = log-times;
       printedTimes = printed-time;
+      readings = readings;
+      printedData = printed-data;
     }

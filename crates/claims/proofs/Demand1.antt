@@ -39,13 +39,13 @@ use Rattle.flat_form.specs.Form.{Flat, Gives, decided, noQuestion, refused, tak
 use Rattle.flat_form.specs.declared.SelAnswer.{SelAnswer}
 use Rattle.flat_form.proofs.Laws.{Told, gives-is, short, told, turned, wrote}
 use Rattle.flat_form.proofs.Untouched.{untouched-else}
-use Rattle.flat_record.specs.Event.{eventDataFlat}
+use Rattle.flat_record.specs.Event.{eventDataFlat, typedDataFlat}
 use Rattle.flat_record.specs.Records.{recordPartFlat}
 use Rattle.flat_answers.specs.Answers.{recordIdFlat}
 use Rattle.flat.specs.Kinds.{flatBy, flatOf}
 use Rattle.flat.specs.Letters.{kindOf}
 use Rattle.flat.specs.Requests.{clearOf, questionLength, requestFlat, requestOf}
-use Rattle.flat.specs.Texts.{entryTextFlat, eventDataTextFlat, eventTextFlat, logTimeTextFlat, timeTextFlat}
+use Rattle.flat.specs.Texts.{entryTextFlat, eventDataTextFlat, eventTextFlat, logTimeTextFlat, timeTextFlat, typedDataTextFlat}
 use Rattle.flat.specs.declared.Kind.{Kind}
 use Rattle.flat.specs.declared.Question.{Question}
 use Rattle.flat.proofs.Counts.{flat-counts}
@@ -144,12 +144,14 @@ request-not-four command reservation argument =
     (chosen (eqb command 0x47) _ (either NotFour (eqb argument 0x00AA) _ _ tt (chosen (eqb argument 0x0000) _ tt))))
 
 not-four : (kind : Kind) (s : List ℕ) → NotFour (flatBy kind s)
-unfolding recordPartFlat entryTextFlat eventDataFlat eventDataTextFlat eventTextFlat timeTextFlat logTimeTextFlat recordIdFlat requestFlat
+unfolding recordPartFlat entryTextFlat eventDataFlat eventDataTextFlat typedDataFlat typedDataTextFlat eventTextFlat timeTextFlat logTimeTextFlat recordIdFlat requestFlat
 not-four (Kind.Answer kind) s = subst NotFour (sym (decides-flat kind .1 s)) (decided-not-four kind s _)
 not-four (Kind.Other Question.EntryText) s = decided-not-four AnswerKind.Entry s _
 not-four (Kind.Other Question.RecordPart) s = tt
 not-four (Kind.Other Question.EventData) s = chosen (eqb (length s) 3) _ tt
 not-four (Kind.Other Question.EventDataText) s = chosen (eqb (length s) 3) _ tt
+not-four (Kind.Other Question.TypedData) s = chosen (eqb (length s) 4) _ tt
+not-four (Kind.Other Question.TypedDataText) s = chosen (eqb (length s) 4) _ tt
 not-four (Kind.Other Question.EventText) s = chosen (eqb (length s) 3) _ tt
 not-four (Kind.Other Question.TimeText) s = chosen (eqb (length s) 4) _ tt
 not-four (Kind.Other Question.LogTimeText) s = chosen (eqb (length s) 4) _ tt

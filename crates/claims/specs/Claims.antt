@@ -1,10 +1,12 @@
 -- What is claimed of the port, whole: the three demands, the cases that its rules mark as proved, what the header of the library for C says,
--- and what was asked for since: what two equal entries may differ in, texts that share their bytes, and times before the
--- clock was set. Assumes nothing.
+-- and what was asked for since: what two equal entries may differ in, texts that share their bytes, times before the
+-- clock was set, and event data by event type. Assumes nothing.
 use Prim.Native.Nat.{ℕ}
 use mathlib.Core.List.{List}
 use Rattle.storage.specs.LogTimes.{LogTimes}
+use Rattle.typed_data.specs.Readings.{Readings}
 use Rattle.event_offset.specs.SharedTexts.{SharedTexts}
+use Rattle.record_line.specs.PrintedData.{PrintedData}
 use Rattle.record_line.specs.PrintedTime.{PrintedTime}
 use Rattle.claims.specs.Cases.{Cases}
 use Rattle.claims.specs.Demand1.{Demand1}
@@ -25,3 +27,6 @@ pub record Claims : Type 0 where
   -- the log's text of a time, and the lines that have it
   pub logTimes : LogTimes
   pub printedTimes : (s : List ℕ) → PrintedTime s
+  -- event data by event type, and the lines that have it
+  pub readings : Readings
+  pub printedData : (s : List ℕ) → PrintedData s

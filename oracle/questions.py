@@ -1,7 +1,7 @@
 """The questions of the program `replay`, in the order of crates/replay/stdin.
 
-Their answers, crates/replay/stdout, come from four places: from model.py for lines that begin with p, w or s, which the Rust
-does not have (of lines that begin with = the model and the Rust must say the same, and so must s and t of the times that the rules leave alone); from dump.py for the words `entry` and `answer`, whose accepted answers are lines of `seldump`, out of the Rust's own
+Their answers, crates/replay/stdout, come from four places: from model.py for lines that begin with p, w, s, D or V, which the Rust
+does not have (of lines that begin with = the model and the Rust must say the same, and so must s and t of the times, and D and d, V and v of the event types, that the rules leave alone); from dump.py for the words `entry` and `answer`, whose accepted answers are lines of `seldump`, out of the Rust's own
 answers; from panics.txt where the Rust panics; from the Rust for every other line. That a line is no question, `?`, is
 said by the program that asks the Rust (src/main.rs), or by model.py.
 """
@@ -89,6 +89,30 @@ def event_data():
             for second in EDGES:
                 for third in EDGES:
                     yield question(kind, [first, second, third])
+
+
+def typed_data():
+    """Every event type, with bit 7 and without, under every pair of kinds; at the ends of the ranges of types with values at the edges too, and with every value."""
+    ends = (0x00, 0x01, 0x02, 0x0C, 0x0D, 0x6E, 0x6F, 0x70, 0x7F)
+    for kind in ("D", "V"):
+        for event in range(256):
+            for first in range(0x05, 0x100, 0x10):
+                yield question(kind, [event, first, 0x12, 0x34])
+        for event in (*ends, 0x81, 0x8C, 0xEF, 0xF0):
+            for first in range(0x09, 0x100, 0x10):
+                for second, third in ((0x00, 0xFF), (0xFF, 0x00), (0xFF, 0xFF), (0xFE, 0xFE)):
+                    yield question(kind, [event, first, second, third])
+        for event in (0x01, 0x6F, 0x70):
+            for first in (0x50, 0xF0):
+                for value in range(256):
+                    yield question(kind, [event, first, value, 255 - value])
+
+
+def typed_records():
+    """A record of each event type whose event data says most: both kinds 01, and both kinds 11; and of each direction."""
+    for event in range(256):
+        for first in (0x59, 0xF9):
+            yield question("e", RECORD[:12] + bytes([event, first]) + RECORD[14:])
 
 
 def event_texts():
@@ -352,8 +376,8 @@ def parsed(asked):
             yield name + line[1:]
 
 
-LETTERS = "eygpiarcdvxtsnqw="
-FIXED = {"d": 3, "v": 3, "x": 3, "t": 4, "s": 4, "n": 2, "channel": 1, "unit": 1, "=": 32}
+LETTERS = "eygpiarcdvDVxtsnqw="
+FIXED = {"d": 3, "v": 3, "D": 4, "V": 4, "x": 3, "t": 4, "s": 4, "n": 2, "channel": 1, "unit": 1, "=": 32}
 
 
 def malformed():
@@ -381,8 +405,8 @@ def longest():
 
 
 LETTERED = [
-    *channels_and_units(), *time_texts(), *allocations(), *event_data(), *event_texts(),
-    *lengths(), *eight_answers(), *fields(), *timed_records(), *oem_records(), *damages(), *texts_of_records(),
+    *channels_and_units(), *time_texts(), *allocations(), *event_data(), *typed_data(), *event_texts(),
+    *lengths(), *eight_answers(), *fields(), *timed_records(), *typed_records(), *oem_records(), *damages(), *texts_of_records(),
     *pairs(), *record_ids(), *requests(), *small_walks(), *walk_edges(), *long_walks(), *malformed(), *longest(),
 ]
 

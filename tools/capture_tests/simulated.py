@@ -76,11 +76,15 @@ OTHER_WORDS = """
 # ---- the records, and what must be printed for them
 
 
+def event_record(sensor, event_type, *data):
+    return bytes([0, 0, 2, *SUMMER.to_bytes(4, "little"), 0x20, 0x00, 0x04, sensor, 0x30, event_type, *data])
+
+
 def every_event():
     """A record for each event type and offset of the standard's two tables: 12 generic types, and the specific one of 44 sensor types."""
     for event_type, sensor in [*((event_type, 0x01) for event_type in range(0x01, 0x0D)), *((0x6F, sensor) for sensor in range(0x01, 0x2D))]:
         for offset in range(16):
-            yield bytes([0, 0, 2, *SUMMER.to_bytes(4, "little"), 0x20, 0x00, 0x04, sensor, 0x30, event_type, offset, 0xFF, 0xFF])
+            yield event_record(sensor, event_type, offset, 0xFF, 0xFF)
 
 
 def any_records(count, seed=10):
@@ -95,12 +99,17 @@ def number(part):
     return int.from_bytes(part, "little")
 
 
-def data_text(first, second, third):
-    words = []
-    for byte, kind, value in ((2, first >> 6, second), (3, first >> 4 & 3, third)):
-        if kind and value != 0xFF:
-            words.append(f"{'reading' if byte == 2 else 'threshold'}={value}" if kind == 1 else f"{'oem' if kind == 2 else 'ext'}{byte}=0x{value:02X}")
-    return ", ".join(words)
+# Event types; those that the standard leaves unspecified or reserves have their event data read as a threshold.
+THRESHOLD, DISCRETE, OEM, OTHER = [0x01], [*range(0x02, 0x0D), 0x6F], range(0x70, 0x80), [0x00, *range(0x0D, 0x6F)]
+
+
+def data_text(event_type, first, second, third):
+    """By table 29-6 of the standard."""
+    reads, extends = event_type in [*THRESHOLD, *OTHER], event_type not in OEM
+    of_second = ["", "reading={}" if reads else "prev=0x{:02X}", "oem2=0x{:02X}", "ext2=0x{:02X}" if extends else ""]
+    of_third = ["", "threshold={}" if reads else "", "oem3=0x{:02X}", "ext3=0x{:02X}" if extends else ""]
+    texts = (text.format(value) for text, value in ((of_second[first >> 6], second), (of_third[first >> 4 & 3], third)) if value != 0xFF)
+    return ", ".join(filter(None, texts))
 
 
 def time_text(moment):
@@ -124,7 +133,7 @@ def must_print(record, event):
     generator = f"sw:{record[7] >> 1:02X} chan={channel:X}" if record[7] & 1 else f"i2c:{record[7] >> 1:02X} chan={channel:X} lun={unit:X}"
     direction = "deassert" if record[12] & 0x80 else "assert"
     return (f"{id} time={moment} gen={generator} rev={record[9]:02X} sensor={record[10]:02X} number={record[11]:02X} dir={direction}"
-            f" type={record[12] & 0x7F:02X} event={event} data={data_text(*record[13:])}")
+            f" type={record[12] & 0x7F:02X} event={event} data={data_text(record[12] & 0x7F, *record[13:])}")
 
 
 def event_of(record):
@@ -163,6 +172,7 @@ class Simulator:
         atexit.register(folder.cleanup)
         self.user = ["-H", "127.0.0.1", "-p", str(self.port), "-U", "tester", "-P", "secret"]
         self.options = ["-I", "lan", *self.user]
+        self.freeipmi = ["-D", "LAN", "-h", f"127.0.0.1:{self.port}", "-u", "tester", "-p", "secret", "-l", "ADMIN"]
         self.start()
 
     def start(self):
@@ -318,7 +328,7 @@ def in_words_of_ipmitool(line, sensors, said):
     kept = 0xF3FF if "unit" in stands else 0xF0FF  # the line has neither reserved bits, nor the unit of software
     generator = int(stands["channel"], 16) << 12 | int(stands.get("unit", "0"), 16) << 8 | int(stands["address"], 16) << 1 | (stands["by"] == "sw")
     same(int(said["Generator ID"], 16) & kept, generator)
-    same(data_text(*bytes.fromhex(said["Event Data"])), stands["data"])
+    same(data_text(int(stands["type"], 16), *bytes.fromhex(said["Event Data"])), stands["data"])
     return {**must, "Record Type": "02", "EvM Revision": stands["revision"].lower(), "Sensor Type": sensors.get(int(stands["sensor"], 16), "Unknown"),
             "Sensor Number": stands["number"].lower(), "Event Type": EVENT_TYPES.get(int(stands["type"], 16), "Reserved"),
             "Event Direction": "Deassertion Event" if stands["direction"] == "deassert" else "Assertion Event"}
@@ -343,8 +353,7 @@ def bare(words):
 @test
 def freeipmi_has_the_same_event_texts():
     it = simulator()
-    options = ["-D", "LAN", "-h", f"127.0.0.1:{it.port}", "-u", "tester", "-p", "secret", "-l", "ADMIN"]
-    told = it.run("ipmi-sel", *options, "--ignore-sdr-cache", "-vv", "--comma-separated-output")
+    told = it.run("ipmi-sel", *it.freeipmi, "--ignore-sdr-cache", "-vv", "--comma-separated-output")
     expect(told.returncode == 0, told.stderr)
     rows = {int(row[0]): row for row in (line.split(",", 6) for line in told.stdout.splitlines()) if row[0].isdecimal()}
     other = {key: (mine, theirs) for key, mine, theirs in (row.split("|") for row in OTHER_WORDS)}
@@ -555,6 +564,62 @@ def times_at_the_edges():
         printed = fields_of(printed_for(file.read_text())[4])["time"]
         rows = ([*map(str.strip, row[1:3])] for rows in (listed, logged) for row in csv.reader(rows.splitlines()) if row[0] == "5")
         same((moment, printed, *map(",".join, rows)), (moment, *must))
+
+
+EVENT_DATA = [  # sensor type, event types and event data; what seldump and FreeIPMI print of the data
+    (0x07, THRESHOLD, "01 12 34", "", ""),
+    (0x07, THRESHOLD, "11 12 34", "threshold=52", "Threshold = 34h"),
+    (0x07, THRESHOLD, "41 12 34", "reading=18", "Sensor Reading = 12h"),
+    (0x07, THRESHOLD, "51 12 34", "reading=18, threshold=52", "Sensor Reading = 12h ; Threshold = 34h"),
+    (0x07, THRESHOLD, "A1 12 34", "oem2=0x12, oem3=0x34", "OEM Event Data2 code = 12h ; OEM Event Data3 code = 34h"),
+    (0x07, THRESHOLD, "F1 12 34", "ext2=0x12, ext3=0x34", "Event Data2 = 12h ; Event Data3 = 34h"),
+    (0x07, THRESHOLD, "51 FF 34", "threshold=52", "Sensor Reading = FFh ; Threshold = 34h"),
+    (0x07, THRESHOLD, "51 12 FF", "reading=18", "Sensor Reading = 12h ; Threshold = FFh"),
+    (0x07, THRESHOLD, "A1 FF 34", "oem3=0x34", "OEM Event Data3 code = 34h"),
+    (0x07, THRESHOLD, "F1 12 FF", "ext2=0x12", "Event Data2 = 12h"),
+    (0x07, DISCRETE, "01 12 34", "", ""),
+    (0x07, DISCRETE, "11 12 34", "", ""),
+    (0x07, DISCRETE, "41 12 34", "prev=0x12", "Severity State = transition to Non-Critical from OK"),
+    (0x07, DISCRETE, "51 12 34", "prev=0x12", "Severity State = transition to Non-Critical from OK"),
+    (0x07, DISCRETE, "61 12 34", "prev=0x12, oem3=0x34", "Severity State = transition to Non-Critical from OK ; OEM Event Data3 code = 34h"),
+    (0x07, DISCRETE, "91 12 34", "oem2=0x12", "OEM Event Data2 code = 12h"),
+    (0x07, DISCRETE, "A1 12 34", "oem2=0x12, oem3=0x34", "OEM Event Data2 code = 12h ; OEM Event Data3 code = 34h"),
+    (0x07, DISCRETE, "F1 12 34", "ext2=0x12, ext3=0x34", "Event Data2 = 12h ; Event Data3 = 34h"),
+    (0x07, DISCRETE, "A1 FF 34", "oem3=0x34", "OEM Event Data3 code = 34h"),
+    (0x07, DISCRETE, "F1 12 FF", "ext2=0x12", "Event Data2 = 12h"),
+    (0x07, DISCRETE, "41 FF FF", "", ""),
+    (0x07, DISCRETE, "41 8F FF", "prev=0x8F", "Severity State = Informational"),  # its upper half is a severity, its lower one a state, and Fh is neither
+    (0x07, DISCRETE, "41 9F FF", "prev=0x9F", "Event Data2 = 9Fh"),
+    (0x07, DISCRETE, "41 F0 FF", "prev=0xF0", "Event Data2 = F0h"),
+    (0x0F, [0x6F], "C1 01 FF", "ext2=0x01", "Memory initialization"),
+    (0x0F, [0x6F], "41 F1 FF", "prev=0xF1", "Previous State = Memory initialization"),  # FreeIPMI takes the state for the extension above
+    (0x0F, [0x6F], "41 21 FF", "prev=0x21", "Previous State = Memory initialization ; Severity State = transition to Critical from less severe"),
+    (0x07, OEM, "01 12 34", "", ""),
+    (0x07, OEM, "51 12 34", "prev=0x12", "OEM Event Data2 code = 12h ; OEM Event Data3 code = 34h"),
+    (0x07, OEM, "A1 12 34", "oem2=0x12, oem3=0x34", "OEM Event Data2 code = 12h ; OEM Event Data3 code = 34h"),
+    (0x07, OEM, "F1 12 34", "", "OEM Event Data2 code = 12h ; OEM Event Data3 code = 34h"),
+    (0x07, OEM, "51 FF FF", "", ""),
+    (0x07, OTHER, "01 12 34", "", "Event Data2 = 12h ; Event Data3 = 34h"),
+    (0x07, OTHER, "51 12 34", "reading=18, threshold=52", "Event Data2 = 12h ; Event Data3 = 34h"),
+    (0x07, OTHER, "A1 12 34", "oem2=0x12, oem3=0x34", "Event Data2 = 12h ; Event Data3 = 34h"),
+    (0x07, OTHER, "F1 12 34", "ext2=0x12, ext3=0x34", "Event Data2 = 12h ; Event Data3 = 34h"),
+    (0x07, OTHER, "51 FF FF", "", "Event Data2 = FFh ; Event Data3 = FFh"),
+]
+
+
+@test
+def event_data_by_event_type():
+    """Of records of every event type, as two readers print it."""
+    rows = [(sensor, event_type, *row) for sensor, event_types, *row in EVENT_DATA for event_type in event_types]
+    it = small(0)
+    it.add([event_record(sensor, event_type, *bytes.fromhex(data)) for sensor, event_type, data, *_ in rows])
+    file = it.path / "data.txt"
+    it.run(CAPTURE, "live", file, *it.options)
+    printed = printed_for(file.read_text())
+    logged = it.run("ipmi-sel", *it.freeipmi, "--ignore-sdr-cache", "--no-header-output", "--comma-separated-output").stdout.splitlines()
+    same((printed[-1], len(logged)), (f"walk=ended read={len(rows)}", len(rows)))
+    for (*added, mine, theirs), line, row in zip(rows, printed, logged):
+        same((*added, fields_of(line)["data"], row.partition(" ; ")[2]), (*added, mine, theirs))  # in the row the event comes first
 
 
 BROKEN = {  # how a log is broken at record 0005h, and what tools/capture must make of it: status, words, verdict

@@ -138,6 +138,7 @@ fn others(records: &[Vec<u8>]) -> Vec<Row> {
         row("reserve", cut(records, 3..5), original::reserve, ours::decode_reserve, (kinds::reserve, answers::decode_reserve)),
         row("clear", cut(records, 3..4), original::clear, ours::decode_clear, (kinds::clear, answers::decode_clear)),
         row("event data", cut(records, 13..), original::event_data, ours::decode_event_data, (event_data, answers::decode_event_data)),
+        of_ours("event data by type".into(), cut(records, 12..), 0, ours::typed_data, (typed_answer, answers::typed_data)),
     ]
 }
 
@@ -152,9 +153,51 @@ fn texts(records: &[Vec<u8>]) -> Vec<Row> {
         row("event text, store lent", events, original::event_text, ours::event_text_from, (event_text, answers::event_text_from)),
         row("event text, single, of a record", of_events, original::entry_text, ours::decode_entry_text, (kinds::entry_text, answers::decode_entry_text)),
         row("event data text", cut(records, 13..), original::event_data_text, ours::data_text, (data_text, answers::data_text)),
+        of_ours("event data text by type".into(), cut(records, 12..), 0, ours::typed_text, (typed_text_answer, answers::typed_text)),
         row("timestamp text", cut(records, 3..7), original::time_text, ours::time_text, (time_text, answers::time_text)),
         of_ours("timestamp text of the log".into(), cut(records, 3..7), 0, ours::log_time_text, (log_time_answer, answers::log_time_text)),
     ]
+}
+
+/// By SCOPE's table: offset, and what each of the two bytes is and its value.
+fn typed(data: &[u8]) -> [u8; 5] {
+    let [event, first, second, third] = *fixed(data);
+    let (kinds2, kinds3) = match event & 0x7F {
+        0x02..=0x0C | 0x6F => ([0, 4, 2, 3], [0, 5, 2, 3]),
+        0x70..=0x7F => ([0, 4, 2, 5], [0, 5, 2, 5]),
+        _ => ([0, 1, 2, 3], [0, 1, 2, 3]),
+    };
+    let told = |kind, value| match (kind, value) {
+        (5, _) => (5, 0),
+        (0, _) | (_, 0xFF) => (0, 0),
+        specified => specified,
+    };
+    let (kind2, value2) = told(kinds2[usize::from(first >> 6)], second);
+    let (kind3, value3) = told(kinds3[usize::from(first >> 4 & 3)], third);
+    [first & 15, kind2, value2, kind3, value3]
+}
+
+fn typed_answer(data: &[u8]) -> String {
+    typed(data).iter().fold("0 ".into(), |said, byte| format!("{said}{byte:02X}"))
+}
+
+fn typed_text_answer(data: &[u8]) -> String {
+    let [_, kind2, value2, kind3, value3] = typed(data);
+    let second = match kind2 {
+        1 => format!("reading={value2}"),
+        2 => format!("oem2=0x{value2:02X}"),
+        3 => format!("ext2=0x{value2:02X}"),
+        4 => format!("prev=0x{value2:02X}"),
+        _ => String::new(),
+    };
+    let third = match kind3 {
+        1 => format!("threshold={value3}"),
+        2 => format!("oem3=0x{value3:02X}"),
+        3 => format!("ext3=0x{value3:02X}"),
+        _ => String::new(),
+    };
+    let comma = if second.is_empty() || third.is_empty() { "" } else { ", " };
+    format!("0 {second}{comma}{third}").trim_end().into()
 }
 
 /// By SCOPE's ranges.

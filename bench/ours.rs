@@ -28,6 +28,15 @@ pub struct Same {
 }
 
 #[repr(C)]
+pub struct TypedData {
+    offset: u8,
+    kind2: u8,
+    value2: u8,
+    kind3: u8,
+    value3: u8,
+}
+
+#[repr(C)]
 pub struct Walk {
     number: u32,
     verdict: u16,
@@ -52,6 +61,8 @@ extern "C" {
         event_type: u8, sensor_type: u8, offset: u8, out: *mut u8, out_length: usize,
     ) -> Answer;
     fn sel_data_text(b1: u8, b2: u8, b3: u8, out: *mut u8, out_length: usize) -> Answer;
+    fn sel_typed_data(event_type: u8, b1: u8, b2: u8, b3: u8) -> TypedData;
+    fn sel_typed_text(event_type: u8, b1: u8, b2: u8, b3: u8, out: *mut u8, out_length: usize) -> Answer;
     fn sel_time_text(time: u32, out: *mut u8, out_length: usize) -> Answer;
     fn sel_log_time_text(time: u32, out: *mut u8, out_length: usize) -> Answer;
     fn sel_request(command: u8, reservation: u16, argument: u16, out: *mut u8, out_length: usize) -> Answer;
@@ -126,6 +137,14 @@ calls! {
         let [b1, b2, b3] = *fixed(data);
         sel_data_text(b1, b2, b3, room.out.as_mut_ptr(), room.out.len())
     };
+    typed_data, numbers: |data, room| {
+        let [event_type, b1, b2, b3] = *fixed(data);
+        sel_typed_data(event_type, b1, b2, b3)
+    };
+    typed_text, text: |data, room| {
+        let [event_type, b1, b2, b3] = *fixed(data);
+        sel_typed_text(event_type, b1, b2, b3, room.out.as_mut_ptr(), room.out.len())
+    };
     time_text, text: |time, room| sel_time_text(u32::from_le_bytes(*fixed(time)), room.out.as_mut_ptr(), room.out.len());
     log_time_text, text: |time, room| sel_log_time_text(u32::from_le_bytes(*fixed(time)), room.out.as_mut_ptr(), room.out.len());
     request_info, hex: |question, room| request(0x40, 0, 0, room);
@@ -180,6 +199,11 @@ fn text(answer: Answer, room: &Room) -> String {
 
 fn number(answer: impl ToString, _: &Room) -> String {
     answer.to_string()
+}
+
+fn numbers(answer: TypedData, _: &Room) -> String {
+    let TypedData { offset, kind2, value2, kind3, value3 } = answer;
+    format!("0 {offset:02X}{kind2:02X}{value2:02X}{kind3:02X}{value3:02X}")
 }
 
 fn sameness(answer: Same, _: &Room) -> String {

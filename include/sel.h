@@ -77,12 +77,14 @@ SelAnswer sel_allocation(const uint8_t *data, size_t data_length, uint8_t *out, 
  *   c  the answer to Clear SEL: 01 completed, 00 in progress; 1 where it is empty
  *   d  three bytes of event data: offset, kind 2, value 2, kind 3, value 3; kinds 0 unspecified, 1 reading or threshold, 2 OEM, 3 sensor-specific
  *   v  three bytes of event data: sel_data_text
+ *   D  byte 12 of a record, and then three bytes of event data: offset, kind 2, value 2, kind 3, value 3, as sel_typed_data has them
+ *   V  the same bytes: sel_typed_text
  *   x  event type, sensor type, offset: sel_event_text
  *   t  a time (4): sel_time_text
  *   s  a time (4): sel_log_time_text
  *   n  a record id (2): 1 unless it is 0000h or FFFFh, which name no record; 1 for 0000h, which asks for the first; 1 for FFFFh, the last; the id (2)
  *   q  a request: 40h, 41h or 42h; 47h, reservation (2), AAh or 00h; 43h, reservation (2), record id (2): sel_request
- * 255 for another number of bytes than d, v, x, t, s, n and q have, and for a request that is none of these. Texts have at most
+ * 255 for another number of bytes than d, v, D, V, x, t, s, n and q have, and for a request that is none of these. Texts have at most
  * SEL_EVENT_TEXT (70) bytes, all others at most SEL_FLAT (24). */
 SelAnswer sel_decode(uint8_t kind, const uint8_t *data, size_t data_length, uint8_t *out, size_t out_length);
 
@@ -119,12 +121,38 @@ SelAnswer sel_event_text_from(const uint8_t *store, size_t store_length, const u
                               const uint8_t *lengths, size_t lengths_length,
                               uint8_t event_type, uint8_t sensor_type, uint8_t offset, uint8_t *out, size_t out_length);
 
-/* A text of event data has at most so many bytes. */
+/* A text of event data, of either reading, has at most so many bytes. */
 #define SEL_DATA_TEXT 26
 
-/* Writes the text of event data, bytes 13 to 15 of a system event, of at most SEL_DATA_TEXT (26) bytes, as `reading=90, threshold=85` or
- * `oem2=0x17`; empty where neither byte is specified. 4 where out is shorter. */
+/* Writes the text of event data, bytes 13 to 15 of a system event, as the original Rust reads them, of at most SEL_DATA_TEXT (26) bytes, as
+ * `reading=90, threshold=85` or `oem2=0x17`; empty where neither byte is specified. 4 where out is shorter. It calls a discrete sensor's previous state a
+ * reading: for people, sel_typed_text is the better one. */
 SelAnswer sel_data_text(uint8_t b1, uint8_t b2, uint8_t b3, uint8_t *out, size_t out_length);
+
+/* offset: bits 3 to 0 of byte 13.
+ * kind2, kind3: what byte 14 is, and byte 15: 0 unspecified, 1 reading (byte 14) or threshold (byte 15), 2 OEM code, 3 sensor-specific, 4 previous state or
+ *         severity (byte 14 alone), 5 reserved.
+ * value2, value3: the byte; 0 where its kind is 0 or 5. */
+typedef struct SelTypedData {
+    uint8_t offset;
+    uint8_t kind2;
+    uint8_t value2;
+    uint8_t kind3;
+    uint8_t value3;
+} SelTypedData;
+
+/* Event data, bytes 13 to 15 of a system event, by its event type (IPMI 2.0, table 29-6). Of the event type bit 7 does not count, so byte 12 will do. By the
+ * kind bits of byte 13, 7 to 6 for byte 14 and 5 to 4 for byte 15:
+ *   event types                        byte 14: 00  01  10  11      byte 15: 00  01  10  11
+ *   00h, 01h, 0Dh to 6Eh                         0   1   2   3                0   1   2   3
+ *   02h to 0Ch, 6Fh                              0   4   2   3                0   5   2   3
+ *   70h to 7Fh                                   0   4   2   5                0   5   2   5
+ * A byte of FFh is 0, unspecified, but where it is 5. In a previous state bits 3 to 0 are the state's offset and bits 7 to 4 the severity's. */
+SelTypedData sel_typed_data(uint8_t event_type, uint8_t b1, uint8_t b2, uint8_t b3);
+
+/* Writes the text of event data as seldump prints it, by the event type, of at most SEL_DATA_TEXT (26) bytes: as sel_data_text, but `prev=0xHH` for a previous
+ * state or severity, and nothing for what is reserved. 4 where out is shorter. */
+SelAnswer sel_typed_text(uint8_t event_type, uint8_t b1, uint8_t b2, uint8_t b3, uint8_t *out, size_t out_length);
 
 /* A text of a time, of either kind, has at most so many bytes. */
 #define SEL_TIME_TEXT 10

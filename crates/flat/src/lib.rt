@@ -9,7 +9,7 @@ pub use requests::requested;
 ghost use mathlib.Core.Path.{_≡_};
 ghost use Rattle.flat_form.specs.Form.{Gives};
 ghost use Rattle.flat.specs.Kinds.{answerFlat, flatOf, otherFlat};
-ghost use Rattle.flat.specs.Letters.{isText, kindOf, textQuestion};
+ghost use Rattle.flat.specs.Letters.{isText, kindOf, textQuestion, upperKindOf};
 
 // What the bytes of a question are read as.
 pub enum Kind {
@@ -42,10 +42,13 @@ pub enum Question {
     Request,
 }
 
-// The kind that a letter names.
+// The kind that a letter names. Letters in upper case are told apart first: one table of both would be too wide for a jump.
 pub fn kind_of(letter: u8) -> Kind
     ensures { λ r. ⌜ r ≡ kindOf letter ⌝ }
 {
+    if letter < b'a' {
+        return upper_kind_of(letter);
+    }
     match letter {
         b'e' => Kind::Answer(AnswerKind::Entry),
         b'g' => Kind::Answer(AnswerKind::GetEntry),
@@ -57,13 +60,21 @@ pub fn kind_of(letter: u8) -> Kind
         b'p' => Kind::Other(Question::RecordPart),
         b'd' => Kind::Other(Question::EventData),
         b'v' => Kind::Other(Question::EventDataText),
-        b'D' => Kind::Other(Question::TypedData),
-        b'V' => Kind::Other(Question::TypedDataText),
         b'x' => Kind::Other(Question::EventText),
         b't' => Kind::Other(Question::TimeText),
         b's' => Kind::Other(Question::LogTimeText),
         b'n' => Kind::Other(Question::RecordId),
         b'q' => Kind::Other(Question::Request),
+        _ => Kind::NoKind,
+    }
+}
+
+fn upper_kind_of(letter: u8) -> Kind
+    ensures { λ r. ⌜ r ≡ upperKindOf letter ⌝ }
+{
+    match letter {
+        b'D' => Kind::Other(Question::TypedData),
+        b'V' => Kind::Other(Question::TypedDataText),
         _ => Kind::NoKind,
     }
 }

@@ -22,6 +22,15 @@ pub(crate) struct Same {
 }
 
 #[repr(C)]
+pub(crate) struct TypedData {
+    pub offset: u8,
+    pub kind2: u8,
+    pub value2: u8,
+    pub kind3: u8,
+    pub value3: u8,
+}
+
+#[repr(C)]
 pub(crate) struct Walk {
     pub number: u32,
     pub verdict: u16,
@@ -31,7 +40,7 @@ pub(crate) struct Walk {
 }
 
 mod library {
-    use super::{Answer, Found, Same, Walk};
+    use super::{Answer, Found, Same, TypedData, Walk};
 
     extern "C" {
         pub fn sel_entry(data: *const u8, data_length: usize, out: *mut u8, out_length: usize) -> Answer;
@@ -63,6 +72,8 @@ mod library {
             out_length: usize,
         ) -> Answer;
         pub fn sel_data_text(b1: u8, b2: u8, b3: u8, out: *mut u8, out_length: usize) -> Answer;
+        pub fn sel_typed_data(event_type: u8, b1: u8, b2: u8, b3: u8) -> TypedData;
+        pub fn sel_typed_text(event_type: u8, b1: u8, b2: u8, b3: u8, out: *mut u8, out_length: usize) -> Answer;
         pub fn sel_time_text(time: u32, out: *mut u8, out_length: usize) -> Answer;
         pub fn sel_log_time_text(time: u32, out: *mut u8, out_length: usize) -> Answer;
         pub fn sel_request(command: u8, reservation: u16, argument: u16, out: *mut u8, out_length: usize) -> Answer;
@@ -133,6 +144,14 @@ pub(crate) fn event_text_from(
 
 pub(crate) fn data_text([b1, b2, b3]: [u8; 3], out: &mut [u8]) -> Answer {
     unsafe { library::sel_data_text(b1, b2, b3, out.as_mut_ptr(), out.len()) }
+}
+
+pub(crate) fn typed_data(event_type: u8, [b1, b2, b3]: [u8; 3]) -> TypedData {
+    unsafe { library::sel_typed_data(event_type, b1, b2, b3) }
+}
+
+pub(crate) fn typed_text(event_type: u8, [b1, b2, b3]: [u8; 3], out: &mut [u8]) -> Answer {
+    unsafe { library::sel_typed_text(event_type, b1, b2, b3, out.as_mut_ptr(), out.len()) }
 }
 
 pub(crate) fn time_text(time: u32, out: &mut [u8]) -> Answer {

@@ -6,7 +6,7 @@ use std::sync::OnceLock;
 
 use crate::ffi::{self, Answer};
 
-// The longest text of each kind; both texts of a time have the same room.
+// The longest text of each kind; both texts of a time have the same room, and so have both of event data.
 const EVENT_ROOM: usize = 70;
 const DATA_ROOM: usize = 26;
 const TIME_ROOM: usize = 10;
@@ -48,6 +48,12 @@ pub(crate) fn event(f: &mut fmt::Formatter<'_>, event: [u8; 3]) -> fmt::Result {
 pub(crate) fn data(f: &mut fmt::Formatter<'_>, data: [u8; 3]) -> fmt::Result {
     let mut room = [0; DATA_ROOM];
     let answer = ffi::data_text(data, &mut room);
+    written(f, answer, &room)
+}
+
+pub(crate) fn typed_data(f: &mut fmt::Formatter<'_>, event_type: u8, data: [u8; 3]) -> fmt::Result {
+    let mut room = [0; DATA_ROOM];
+    let answer = ffi::typed_text(event_type, data, &mut room);
     written(f, answer, &room)
 }
 

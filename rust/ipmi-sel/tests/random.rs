@@ -9,7 +9,7 @@ use ipmi_sel::capture::{
     bytes_that_count, find, record_bytes, refused_length, refused_slots, same_entry, walk, AnswerKind, RefusedRecord, Walk, WalkError, SLOT,
 };
 use ipmi_sel::connection::{Channel, ChannelNumber, LogicalUnit};
-use ipmi_sel::storage::sdr::{decode_event, EventData, SensorType};
+use ipmi_sel::storage::sdr::{decode_event, EventData, SensorType, TypedData, TypedData2, TypedData3};
 use ipmi_sel::storage::sel::{
     ClearSel, Entry, EventGenerator, EventMessageRevision, GetSelEntry, GetSelInfo, ParseEntryError, RecordId, ReserveSel, SelAllocInfo,
     SelGetAllocInfo, SelInfo,
@@ -173,6 +173,13 @@ fn event_data_and_texts() {
         let data = EventData::parse(&[b1, b2, b3]);
         let lengths = [data.to_string().len(), data.data2_type.to_string().len(), data.data3_type.to_string().len()];
         assert!(lengths.iter().all(|length| *length <= 26));
+        let (typed, text) = (TypedData::parse(b1, &[b2, b3, b1]), TypedData::text(b1, &[b2, b3, b1]).to_string());
+        let decoded = EventData::parse(&[b2, b3, b1]);
+        assert!(text.len() <= 26 && text == decoded.text_by_type(b1).to_string());
+        // The two readings differ in a previous state and in what is reserved alone.
+        let other = matches!(typed.data2, TypedData2::PreviousState(_) | TypedData2::Reserved) || typed.data3 == TypedData3::Reserved;
+        assert!(other || text == decoded.to_string());
+        assert!(!other || matches!(b1 & 0x7F, 0x02..=0x0C | 0x6F..=0x7F));
         let text = |event_type| Text(move |f: &mut fmt::Formatter<'_>| decode_event(f, event_type, SensorType::from(b2), b3)).to_string();
         assert!(text(b1).len() <= 70 && text(0x6F).len() <= 70 && text(b1 % 16).len() <= 70);
     });

@@ -8,7 +8,7 @@ use ipmi_sel::capture::{
 };
 use ipmi_sel::connection::{Channel, ChannelNumber, LogicalUnit, NotEnoughData};
 use ipmi_sel::nonmax::NonMaxU8;
-use ipmi_sel::storage::sdr::{decode_event, EventData, EventData2Type, EventData3Type, SensorType};
+use ipmi_sel::storage::sdr::{decode_event, EventData, EventData2Type, EventData3Type, SensorType, TypedData, TypedData2, TypedData3};
 use ipmi_sel::storage::sel::{
     ClearSel, Entry, ErasureProgress, EventDirection, EventGenerator, EventMessageRevision, GetSelEntry, GetSelInfo, ParseEntryError,
     RecordId, ReserveSel, SelAllocInfo, SelCommand, SelGetAllocInfo,
@@ -244,6 +244,68 @@ fn event_data() {
     // A built value, with an offset that no record has.
     let built = EventData { offset: 0xFF, data2_type: EventData2Type::Unspecified, data3_type: EventData3Type::TriggerThreshold(value(1)) };
     assert_eq!(built.to_string(), "threshold=1");
+}
+
+#[test]
+fn event_data_by_type() {
+    // The kinds 00, 01, 10 and 11 of byte 14, and of byte 15, by event type.
+    let (reading, previous, oem, specific) = (TypedData2::TriggerReading, TypedData2::PreviousState, TypedData2::OemCode, TypedData2::SensorSpecific);
+    let (none, reserved) = (TypedData2::Unspecified, TypedData2::Reserved);
+    let of_second = |v| {
+        [
+            (0x01, [none, reading(v), oem(v), specific(v)]),
+            (0x02, [none, previous(v), oem(v), specific(v)]),
+            (0x0C, [none, previous(v), oem(v), specific(v)]),
+            (0x0D, [none, reading(v), oem(v), specific(v)]),
+            (0x6E, [none, reading(v), oem(v), specific(v)]),
+            (0x6F, [none, previous(v), oem(v), specific(v)]),
+            (0x70, [none, previous(v), oem(v), reserved]),
+            (0x7F, [none, previous(v), oem(v), reserved]),
+        ]
+    };
+    let (threshold, oem3, specific3) = (TypedData3::TriggerThreshold, TypedData3::OemCode, TypedData3::SensorSpecific);
+    let (none3, reserved3) = (TypedData3::Unspecified, TypedData3::Reserved);
+    let of_third = |v| {
+        [
+            (0x00, [none3, threshold(v), oem3(v), specific3(v)]),
+            (0x0C, [none3, reserved3, oem3(v), specific3(v)]),
+            (0x6F, [none3, reserved3, oem3(v), specific3(v)]),
+            (0x70, [none3, reserved3, oem3(v), reserved3]),
+        ]
+    };
+    for direction in [0x00, 0x80] {
+        for (event_type, cases) in of_second(value(0x12)) {
+            for (kind, case) in cases.into_iter().enumerate() {
+                let read = |v| TypedData::parse(event_type | direction, &[(kind as u8) << 6 | 5, v, 0]);
+                assert_eq!(read(0x12), TypedData { offset: 5, data2: case, data3: none3 });
+                assert_eq!(read(0xFF).data2, if case == reserved { reserved } else { none });
+            }
+        }
+        for (event_type, cases) in of_third(value(0x34)) {
+            for (kind, case) in cases.into_iter().enumerate() {
+                let read = |v| TypedData::parse(event_type | direction, &[(kind as u8) << 4 | 5, 0, v]);
+                assert_eq!(read(0x34), TypedData { offset: 5, data2: none, data3: case });
+                assert_eq!(read(0xFF).data3, if case == reserved3 { reserved3 } else { none3 });
+            }
+        }
+    }
+    for (event_type, data, text) in [
+        (0x01, [0x50, 0x12, 0x34], "reading=18, threshold=52"),
+        (0xEF, [0x50, 0x12, 0x34], "prev=0x12"),
+        (0x0C, [0x70, 0xF1, 0x0F], "prev=0xF1, ext3=0x0F"),
+        (0x6F, [0x10, 0x12, 0x34], ""),
+        (0x70, [0xF0, 0x12, 0x34], ""),
+        (0x70, [0xE0, 0x12, 0x34], "oem3=0x34"),
+    ] {
+        assert_eq!(TypedData::text(event_type, &data).to_string(), text);
+        // What was decoded has the same text; the fields too, but for a reserved kind with FFh.
+        let decoded = EventData::parse(&data);
+        assert_eq!(decoded.text_by_type(event_type).to_string(), text);
+        assert_eq!(decoded.by_type(event_type), TypedData::parse(event_type, &data));
+    }
+    let lost = [0xF3, 0xFF, 0x01];
+    assert_eq!(TypedData::parse(0x70, &lost), TypedData { offset: 3, data2: reserved, data3: reserved3 });
+    assert_eq!(EventData::parse(&lost).by_type(0x70), TypedData { offset: 3, data2: none, data3: reserved3 });
 }
 
 #[test]

@@ -74,7 +74,7 @@ fn slot(line: &str) -> Option<(u16, Vec<u8>)> {
 #[test]
 fn the_logs_of_the_examples() {
     let mut records = 0;
-    for name in ["healthy", "damaged", "oem", "missing", "circle", "late-clock"] {
+    for name in ["healthy", "damaged", "oem", "missing", "circle", "late-clock", "previous-state", "reserved-kind"] {
         let text = fs::read_to_string(project().join(format!("examples/{name}.txt"))).unwrap();
         // A line that is none is no answer.
         let log: Vec<_> = text.lines().filter_map(slot).collect();

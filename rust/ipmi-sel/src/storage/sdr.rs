@@ -3,6 +3,7 @@
 
 use std::fmt;
 
+use crate::ffi;
 use crate::flat::Flat;
 use crate::nonmax::NonMaxU8;
 use crate::text;
@@ -129,7 +130,8 @@ impl fmt::Display for EventData3Type {
     }
 }
 
-/// The three bytes of event data.
+/// The three bytes of event data, by their kinds alone, as the original reads them: a discrete sensor's previous state is a reading here. For people,
+/// [`by_type`](Self::by_type) is the better one.
 #[derive(Debug, Clone, PartialEq)]
 pub struct EventData {
     pub offset: u8,
@@ -146,6 +148,23 @@ impl EventData {
         }
     }
 
+    /// What the bytes are under the entry's event type, as [`TypedData::parse`] has them, but that a reserved kind with a value of FFh is unspecified: of
+    /// such a byte the kind was not kept. Not in ipmi-rs-core.
+    pub fn by_type(&self, event_type: u8) -> TypedData {
+        TypedData { offset: self.offset, ..TypedData::parse(event_type, &self.bytes()) }
+    }
+
+    /// Their text under the entry's event type, as [`TypedData::text`] has it. Not in ipmi-rs-core.
+    pub fn text_by_type(&self, event_type: u8) -> TypedText {
+        TypedData::text(event_type, &self.bytes())
+    }
+
+    /// The bytes put back as a record has them, but for the offset.
+    fn bytes(&self) -> [u8; 3] {
+        let ((kind2, value2), (kind3, value3)) = (self.data2_type.parts(), self.data3_type.parts());
+        [kind2 << 6 | kind3 << 4, value2, value3]
+    }
+
     #[inline]
     pub(crate) fn decoded(flat: &mut Flat) -> Self {
         Self { offset: flat.byte(), data2_type: EventData2Type::decoded(flat.bytes()), data3_type: EventData3Type::decoded(flat.bytes()) }
@@ -154,6 +173,79 @@ impl EventData {
 
 impl fmt::Display for EventData {
     fn fmt(&self, f: &mut fmt::Formatter<'_>) -> fmt::Result {
-        data_text(f, self.data2_type.parts(), self.data3_type.parts())
+        text::data(f, self.bytes())
+    }
+}
+
+/// What byte 14 of a record is, by the event type. Not in ipmi-rs-core.
+#[derive(Debug, Clone, Copy, PartialEq)]
+pub enum TypedData2 {
+    Unspecified,
+    TriggerReading(NonMaxU8),
+    /// Bits 3 to 0 are the offset of the previous state, bits 7 to 4 that of the severity, each Fh where it is not given.
+    PreviousState(NonMaxU8),
+    OemCode(NonMaxU8),
+    SensorSpecific(NonMaxU8),
+    /// With any value, FFh too.
+    Reserved,
+}
+
+/// What byte 15 of a record is, by the event type. Not in ipmi-rs-core.
+#[derive(Debug, Clone, Copy, PartialEq)]
+pub enum TypedData3 {
+    Unspecified,
+    TriggerThreshold(NonMaxU8),
+    OemCode(NonMaxU8),
+    SensorSpecific(NonMaxU8),
+    /// With any value, FFh too.
+    Reserved,
+}
+
+/// The three bytes of event data by the event type (IPMI 2.0, table 29-6). Not in ipmi-rs-core.
+#[derive(Debug, Clone, Copy, PartialEq)]
+pub struct TypedData {
+    pub offset: u8,
+    pub data2: TypedData2,
+    pub data3: TypedData3,
+}
+
+impl TypedData {
+    /// Bytes 13 to 15 of a record. Of the event type bit 7 does not count, so its byte 12 will do.
+    pub fn parse(event_type: u8, data: &[u8; 3]) -> Self {
+        let read = ffi::typed_data(event_type, *data);
+        let data2 = match (read.kind2, NonMaxU8::new(read.value2)) {
+            (1, Some(value)) => TypedData2::TriggerReading(value),
+            (2, Some(value)) => TypedData2::OemCode(value),
+            (3, Some(value)) => TypedData2::SensorSpecific(value),
+            (4, Some(value)) => TypedData2::PreviousState(value),
+            (5, _) => TypedData2::Reserved,
+            _ => TypedData2::Unspecified,
+        };
+        let data3 = match (read.kind3, NonMaxU8::new(read.value3)) {
+            (1, Some(value)) => TypedData3::TriggerThreshold(value),
+            (2, Some(value)) => TypedData3::OemCode(value),
+            (3, Some(value)) => TypedData3::SensorSpecific(value),
+            (5, _) => TypedData3::Reserved,
+            _ => TypedData3::Unspecified,
+        };
+        Self { offset: read.offset, data2, data3 }
+    }
+
+    /// The text of these bytes that `seldump` prints, `prev=0x12` for a previous state and nothing for what is reserved.
+    pub fn text(event_type: u8, data: &[u8; 3]) -> TypedText {
+        TypedText { event_type, data: *data }
+    }
+}
+
+/// The text of event data by the event type, to be formatted with `{}`.
+#[derive(Debug, Clone, Copy, PartialEq)]
+pub struct TypedText {
+    event_type: u8,
+    data: [u8; 3],
+}
+
+impl fmt::Display for TypedText {
+    fn fmt(&self, f: &mut fmt::Formatter<'_>) -> fmt::Result {
+        text::typed_data(f, self.event_type, self.data)
     }
 }

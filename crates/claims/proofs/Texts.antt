@@ -2,14 +2,13 @@
 use Prim.Native.Nat.{ℕ, zero, suc, _≤_}
 use mathlib.Core.Path.{_≡_, refl, ap, _∙_}
 use mathlib.Core.Bool.{false}
-use mathlib.Core.List.{List, [], _∷_, _++_}
+use mathlib.Core.List.{[], _++_}
 use native.Mathlib.Omega.{arith}
 use borrow.Author.Tests.{eq-eqb, le-leb, ne-eqb}
 use lib.Dec.{eqb}
 use lib.ListN.{length, drop, getD, take}
 use lib.Seq.{drop-at, take-at}
 use Rattle.field.specs.Bits.{bits}
-use Rattle.field.specs.Choose.{if_then_else_}
 use Rattle.field.proofs.Placed.{placed-front}
 use Rattle.text.specs.Text.{bytes}
 use Rattle.storage.specs.Time.{timeText}

@@ -6,7 +6,7 @@ use mathlib.Core.Bool.{false}
 use native.Mathlib.Omega.{arith}
 use borrow.Author.Tests.{ne-eqb}
 use lib.Dec.{eqb}
-use Rattle.flat.specs.Letters.{kindOf, upperKindOf}
+use Rattle.flat.specs.Letters.{kindOf}
 use borrow.Author.Needs.{needs}
 use Rattle.flat.proofs.kind_of.Statement.{statement}
 use Rattle.flat.proofs.kind_of.Tie as tie

@@ -5,8 +5,6 @@ mod texts;
 mod typed;
 mod walk;
 
-use answers::AnswerKind;
-use answers::LengthAnswer;
 pub use connections::sel_channel;
 pub use connections::sel_unit;
 use flat::Kind;
@@ -28,13 +26,15 @@ pub use walk::sel_find;
 pub use walk::sel_slots_length;
 pub use walk::sel_walk;
 ghost use mathlib.Core.Path.{_≡_};
-ghost use Rattle.answers.specs.Length.{lengthHands};
-ghost use Rattle.flat_form.specs.Form.{Gives};
+ghost use mathlib.Core.List.{[], _∷_};
+ghost use Rattle.field.specs.Handed.{handed, ported};
+ghost use Rattle.flat_form.specs.Form.{Gives, refusal};
 ghost use Rattle.flat_record.specs.Records.{entryFlat, getEntryFlat};
 ghost use Rattle.flat_answers.specs.Answers.{allocationFlat};
 ghost use Rattle.flat.specs.Kinds.{flatOf};
+ghost use Rattle.flat.specs.Lengths.{lengthSaid};
 ghost use Rattle.flat.specs.Requests.{requestOf};
-ghost use Rattle.abi.specs.Questions.{lengthNumber, letterBytes};
+ghost use Rattle.abi.specs.Questions.{letterBytes};
 
 // A letter, command or number that there is none of.
 pub(crate) const NO_QUESTION: u32 = 255;
@@ -73,23 +73,18 @@ pub extern "C" fn sel_decode(kind: u8, data: &[u8], out: &mut [u8]) -> SelAnswer
 
 // What the length of an answer decides, before there is a byte of it.
 #[no_mangle]
-pub extern "C" fn sel_length(kind: u8, len: usize) -> u32
-    ensures { λ r. ⌜ r ≡ lengthNumber kind len ⌝ }
+pub extern "C" fn sel_length(kind: u8, len: usize) -> SelAnswer
+    ensures { λ r. ⌜ r ≡ lengthSaid kind len ⌝ }
 {
-    match flat::kind_of(kind) {
-        Kind::Answer(asked) => length_number(asked, len),
-        Kind::Other(_) => NO_QUESTION,
-        Kind::NoKind => NO_QUESTION,
-    }
+    flat::length_of(kind, len)
 }
 
-fn length_number(kind: AnswerKind, len: usize) -> u32
-    ensures { λ r. ⌜ r ≡ lengthHands kind len .number ⌝ }
+// A number and what it carries, as the Rust has them.
+#[no_mangle]
+pub extern "C" fn sel_ported(number: u32, value: usize) -> SelAnswer
+    ensures { λ r. ⌜ r ≡ refusal (ported (handed number (value ∷ []))) ⌝ }
 {
-    match answers::length_answer(kind, len) {
-        LengthAnswer::MayBeRead => 0,
-        LengthAnswer::NotEnoughData => 1,
-    }
+    flat_form::ported(number, value)
 }
 
 // How many bytes of an answer count; 0 for any other letter.

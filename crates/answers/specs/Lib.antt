@@ -2,5 +2,8 @@ pub mod Answer
 pub mod BytesThatCount
 pub mod Length
 pub mod LengthDecides
+pub mod Ported
 pub mod RequestLengths
 pub mod Rows
+pub mod RustAnswers
+pub mod WhatWasShort

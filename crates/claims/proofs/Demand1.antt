@@ -13,7 +13,7 @@ use Rattle.field.specs.Bits.{byteAt}
 use Rattle.field.specs.Choose.{if_then_else_, within}
 use Rattle.field.specs.Handed.{Handed}
 use Rattle.field.specs.Rows.{LongEnough, Rows, Taken, accepted, long, tooShort}
-use Rattle.field.proofs.Choices.{either}
+use Rattle.field.proofs.Choices.{clash, either}
 use Rattle.field.proofs.Rows.{rows-are}
 use Rattle.text.specs.Written.{Wrote, numberOf as writtenNumber}
 use Rattle.text.specs.declared.Written.{Written}
@@ -52,7 +52,6 @@ use Rattle.flat.proofs.Counts.{flat-counts}
 use Rattle.flat.proofs.Rows.{exactly, flat-rows, too-long, decides as decides-flat}
 use Rattle.slot_line.specs.Input.{judgeInput, slotsOf}
 use Rattle.slot_line.specs.declared.Judged.{Judged}
-use Rattle.slot_line.proofs.Forms.{clash}
 use Rattle.log.specs.Closing.{numberOf as logNumber}
 use Rattle.log.specs.Log.{Logged, closingBy, closingOf, leftBy}
 use Rattle.log.specs.Verdict.{settledOf}

@@ -9,10 +9,11 @@ use native.Mathlib.Decide.{decLe}
 use borrow.Author.Tests.{lt-ltb, le-ltb}
 use lib.ListN.{length, getD}
 use Rattle.field.specs.Handed.{Answers, Handed, handed}
+use Rattle.field.proofs.Choices.{clash}
 use Rattle.slot_line.specs.Input.{inputHands, judgeInput, leading, lineForm, lines, numberOf}
 use Rattle.slot_line.specs.Line.{fits}
 use Rattle.slot_line.specs.declared.Judged.{Judged}
-use Rattle.slot_line.proofs.Forms.{clash, unlike}
+use Rattle.slot_line.proofs.Forms.{unlike}
 use Rattle.claims.specs.Demand1.{AllGood, FirstBad, OneTooMany}
 
 abbrev good : List (List ℕ) → ℕ → Bool

@@ -1,12 +1,16 @@
 -- Laws of choices; and an answer that is the definition's has the definition's number.
 -- Assumes nothing.
 use Prim.Native.Nat.{ℕ}
-use mathlib.Core.Path.{_≡_, refl, sym, ap, _∙_}
+use mathlib.Core.Path.{_≡_, refl, sym, ap, subst, _∙_}
 use mathlib.Core.Bool.{Bool, true, false}
-use lib.Dec.{eqb}
+use lib.Dec.{T, eqb}
 use borrow.Author.Tests.{eqb-true}
 use Rattle.field.specs.Choose.{if_then_else_}
 use Rattle.field.specs.Handed.{Handed, Answers}
+
+-- no test goes both ways
+pub clash : {A : Type 0} {b : Bool} → b ≡ true → b ≡ false → A
+clash p q = absurd (subst T (sym p ∙ q) tt)
 
 -- a function of a choice is the choice of its values
 pub float : {A B : Type 0} (f : A → B) (b : Bool) (x y : A) → f (if b then x else y) ≡ (if b then f x else f y)

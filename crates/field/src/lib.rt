@@ -1,5 +1,7 @@
-// Bytes and little-endian numbers at a place of a slice. Each reader is total: a byte past the end is 0. And the lengths of answers.
+// Bytes and little-endian numbers at a place of a slice. Each reader is total: a byte past the end is 0. And the lengths of answers, and
+// the numbers of refusals.
 pub mod lengths;
+pub mod numbers;
 
 ghost use mathlib.Core.Path.{_≡_};
 ghost use lib.ListN.{getD};

@@ -21,11 +21,13 @@ use Rattle.get_entry.specs.GetEntry.{entryRequest, parseAnswer, recordPart}
 use Rattle.sel_commands.specs.Clear.{clearRequest, parseClear}
 use Rattle.sel_commands.specs.Info.{howMany, parseInfo}
 use Rattle.sel_commands.specs.Reserve.{parseReserve}
+use Rattle.answers.specs.Length.{lengthAnswer}
 use Rattle.flat_form.specs.Form.{Flat, decided, flatAnswer, flatLeaves, noQuestion, refused, said, taken}
 use Rattle.flat_record.specs.Event.{eventDataFlat, typedDataFlat}
 use Rattle.flat_record.specs.Records.{entryFlat, getEntryFlat, plainFlat, recordFlat, recordPartFlat, stampedFlat, systemFlat}
 use Rattle.flat_answers.specs.Answers.{allocationFlat, clearFlat, idFlat, infoFlat, recordIdFlat, reserveFlat}
 use Rattle.flat.specs.Kinds.{flatOf}
+use Rattle.flat.specs.Lengths.{lengthFlat}
 use Rattle.flat.specs.Letters.{kindOf}
 use Rattle.flat.specs.Requests.{clearOf, questionLength, requestFlat, requestOf}
 use Rattle.flat.specs.Texts.{entryTextFlat, eventDataTextFlat, eventTextFlat, logTimeTextFlat, timeTextFlat, typedDataTextFlat}
@@ -56,7 +58,8 @@ records : Right
     -- an OEM record with a time, whose maker has 24 bits
     ∷ case "e" (0x34 ∷ 0x12 ∷ 0xC0 ∷ 1 ∷ 2 ∷ 3 ∷ 4 ∷ 0x57 ∷ 0xC0 ∷ 0xFF ∷ 10 ∷ 11 ∷ 12 ∷ 13 ∷ 14 ∷ 15 ∷ [])
     (taken (0x01 ∷ 0x34 ∷ 0x12 ∷ 0xC0 ∷ 1 ∷ 2 ∷ 3 ∷ 4 ∷ 0x57 ∷ 0xC0 ∷ 0xFF ∷ 0x00 ∷ 10 ∷ 11 ∷ 12 ∷ 13 ∷ 14 ∷ 15 ∷ []))
-    ∷ case "e" (replicate 15 0) (refused (handed 1 []))
+    ∷ case "e" (replicate 15 0) (refused (handed 1 (16 ∷ [])))
+    ∷ case "g" (replicate 17 0) (refused (handed 1 (18 ∷ [])))
     ∷ case "y" (0 ∷ 0 ∷ 2 ∷ (replicate 5 0 ++ (0xC0 ∷ replicate 7 0))) (refused (handed 3 (12 ∷ [])))
     ∷ case "y" system (taken (bytes "Upper Critical - going high"))
     -- an OEM record without a time, behind the next id
@@ -71,6 +74,8 @@ answers : Right
     (case "i" (0x51 ∷ 2 ∷ 0 ∷ 0 ∷ 1 ∷ 3 ∷ 0 ∷ 0 ∷ 0 ∷ 4 ∷ 0 ∷ 0 ∷ 0 ∷ 0x8A ∷ []) (taken (1 ∷ 5 ∷ 2 ∷ 0 ∷ 0 ∷ 1 ∷ 3 ∷ 0 ∷ 0 ∷ 0 ∷ 4 ∷ 0 ∷ 0 ∷ 0 ∷ 1 ∷ 0x0A ∷ 2 ∷ []))
     ∷ case "a" (0 ∷ 1 ∷ 16 ∷ 0 ∷ 2 ∷ 1 ∷ 3 ∷ 1 ∷ 4 ∷ 9 ∷ []) (taken (0 ∷ 1 ∷ 16 ∷ 0 ∷ 2 ∷ 1 ∷ 3 ∷ 1 ∷ 4 ∷ []))
     ∷ case "r" (0x34 ∷ 0x12 ∷ []) (taken (0x34 ∷ 0x12 ∷ []))
+    ∷ case "r" (0 ∷ 0 ∷ []) (refused (handed 9 []))
+    ∷ case "i" (replicate 15 0) (refused (handed 8 []))
     ∷ case "c" (0x11 ∷ []) (taken (1 ∷ []))
     -- it names no record, and asks for the last one
     ∷ case "n" (0xFF ∷ 0xFF ∷ []) (taken (0 ∷ 0 ∷ 1 ∷ 0xFF ∷ 0xFF ∷ []))
@@ -95,6 +100,18 @@ events : Right
     ∷ [])
 unfolding kindOf typedDataFlat typedDataTextFlat typedOf classOf toldOf typedText eventDataFlat eventDataTextFlat eventDataOf byKind dataText unlessFFh joined decimal decimalIn digitOf eventTextFlat eventText timeTextFlat timeText logTimeTextFlat logTimeText
 events = refl
+
+-- a length, before there is a byte: `e` of 15 and 16 bytes, `i` of 15, `r` of 2; a letter that names no answer
+lengths : Right
+    (case "L" (0x65 ∷ 15 ∷ 0 ∷ 0 ∷ 0 ∷ []) (refused (handed 1 (16 ∷ [])))
+    ∷ case "L" (0x65 ∷ 16 ∷ 0 ∷ 0 ∷ 0 ∷ []) (taken [])
+    ∷ case "L" (0x69 ∷ 15 ∷ 0 ∷ 0 ∷ 0 ∷ []) (refused (handed 8 []))
+    ∷ case "L" (0x72 ∷ 2 ∷ 0 ∷ 0 ∷ 0 ∷ []) (taken [])
+    ∷ case "L" (0x64 ∷ 3 ∷ 0 ∷ 0 ∷ 0 ∷ []) noQuestion
+    ∷ case "L" (0x65 ∷ 15 ∷ 0 ∷ 0 ∷ []) noQuestion
+    ∷ [])
+unfolding kindOf lengthFlat lengthAnswer decided
+lengths = refl
 
 requests : Right
     (case "q" (0x42 ∷ []) (taken [])

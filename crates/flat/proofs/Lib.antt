@@ -1,5 +1,7 @@
 mod Cases
 pub mod Counts
 pub mod Laws
+pub mod LengthSaid
+pub mod Ported
 pub mod Rows
 pub mod Sizes

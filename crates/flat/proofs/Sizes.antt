@@ -7,11 +7,11 @@ use native.Mathlib.Omega.{arith}
 use borrow.Author.Tests.{eqb-true, eq-eqb, ne-eqb, le-leb, lt-leb}
 use lib.Dec.{eqb, ltb}
 use lib.ListN.{length, drop, length-take}
-use Rattle.field.specs.Bits.{Bytes, byteAt}
+use Rattle.field.specs.Bits.{Bytes, byteAt, le32At}
 use Rattle.field.specs.Choose.{if_then_else_, within}
 use Rattle.field.specs.Handed.{Handed}
 use Rattle.field.specs.Rows.{LongEnough, long, tooShort}
-use Rattle.field.proofs.Choices.{either}
+use Rattle.field.proofs.Choices.{clash, either}
 use Rattle.connection.specs.Channel.{validChannel}
 use Rattle.storage.proofs.Laws.{time-at, time-length}
 use Rattle.event_data.proofs.Room.{data-short}
@@ -24,14 +24,16 @@ use Rattle.sel.specs.Numbers.{entryHands}
 use Rattle.sel.proofs.Rows.{entry-rows}
 use Rattle.get_entry.specs.GetEntry.{recordPart}
 use Rattle.sel_commands.specs.declared.clear.ClearSelAction.{ClearSelAction}
+use Rattle.answers.specs.Length.{lengthHands}
 use Rattle.answers.specs.declared.AnswerKind.{AnswerKind}
 use Rattle.answers.proofs.Requests.{request-lengths}
-use Rattle.flat_form.specs.Form.{Flat, decided, refused, taken}
+use Rattle.flat_form.specs.Form.{Flat, decided, noQuestion, refused, taken}
 use Rattle.flat_record.specs.Event.{eventDataFlat, typedDataFlat}
 use Rattle.flat_record.specs.Records.{entryFlat, getEntryFlat, plainFlat, recordFlat, recordPartFlat, stampedFlat}
 use Rattle.flat_record.proofs.Laws.{plain-length, stamped-length, system-length}
 use Rattle.flat_answers.specs.Answers.{allocationFlat, clearFlat, idFlat, infoFlat, recordIdFlat, reserveFlat}
 use Rattle.flat.specs.Kinds.{answerFlat, flatBy}
+use Rattle.flat.specs.Lengths.{lengthFlat, lengthOf, ofAnswer}
 use Rattle.flat.specs.Letters.{isText, kindOf}
 use Rattle.flat.specs.Requests.{clearOf, questionLength, requestFlat, requestOf}
 use Rattle.flat.specs.Sizes.{Sizes, flatRoom, requestRoom}
@@ -117,10 +119,18 @@ answer-fits AnswerKind.Allocation s = decided-has _ _ _ (λ z. omega arith)
 answer-fits AnswerKind.Reserve s = decided-has _ _ _ (λ z. omega arith)
 answer-fits AnswerKind.Clear s = decided-has _ _ _ (λ z. omega arith)
 
+length-fits : (letter n : ℕ) → Fits flatRoom (lengthOf letter n)
+length-fits letter n = by (kindOf letter)
+  where
+    by : (kind : Kind) → Fits flatRoom (ofAnswer (λ k. decided (lengthHands k n) []) noQuestion kind)
+    by (Kind.Answer kind) = decided-has _ _ _ (λ z. omega arith)
+    by (Kind.Other question) = tt
+    by Kind.NoKind = tt
+
 -- any kind: what is known of the bytes is asked for only where the kind is a text
 module _ (s : List ℕ) where
   kind-fits : (kind : Kind) → (isText kind ≡ true → Bytes (length s) s) → Fits (if isText kind then eventRoom else flatRoom) (flatBy kind s)
-  unfolding recordPartFlat eventDataFlat typedDataFlat typedDataTextFlat recordIdFlat idFlat requestFlat entryTextFlat eventDataTextFlat eventTextFlat timeTextFlat logTimeTextFlat
+  unfolding lengthFlat recordPartFlat eventDataFlat typedDataFlat typedDataTextFlat recordIdFlat idFlat requestFlat entryTextFlat eventDataTextFlat eventTextFlat timeTextFlat logTimeTextFlat
   kind-fits (Kind.Answer kind) bs = answer-fits kind s
   kind-fits (Kind.Other Question.EntryText) bs =
       decided-has _ _ _ (λ z. either (λ (l : List ℕ). length l ≤ eventRoom) (eqb (typeAt s) 0x02) _ _ (event-length _ _ _) (omega arith))
@@ -130,6 +140,7 @@ module _ (s : List ℕ) where
   kind-fits (Kind.Other Question.TypedData) bs = either (Fits flatRoom) (eqb (length s) 4) _ _ (omega arith) tt
   kind-fits (Kind.Other Question.TypedDataText) bs =
       either (Fits eventRoom) (eqb (length s) 4) _ _ (omega (arith, typed-short (byteAt s 0) (byteAt s 1 ∷ byteAt s 2 ∷ byteAt s 3 ∷ []) (bs refl .each 2) (bs refl .each 3))) tt
+  kind-fits (Kind.Other Question.Length) bs = either (Fits flatRoom) (eqb (length s) 5) _ _ (length-fits (byteAt s 0) (le32At s 1)) tt
   kind-fits (Kind.Other Question.EventText) bs = either (Fits eventRoom) (eqb (length s) 3) _ _ (event-length _ _ _) tt
   kind-fits (Kind.Other Question.TimeText) bs = either (Fits eventRoom) (eqb (length s) 4) _ _ (omega (arith, time-at s 0 (bs refl .each) .ported)) tt
   kind-fits (Kind.Other Question.LogTimeText) bs = either (Fits eventRoom) (eqb (length s) 4) _ _ (omega (arith, time-at s 0 (bs refl .each) .log)) tt
@@ -138,14 +149,11 @@ module _ (s : List ℕ) where
       either (Fits flatRoom) (eqb (length s) (questionLength (byteAt s 0))) _ _ (request-fits flatRoom (omega arith) _ _ _) tt
   kind-fits Kind.NoKind bs = tt
 
-clash : (b : Bool) → b ≡ false → b ≡ true → ⊥
-clash b f t = let z : _≡_ {A = ℕ} 0 1 = cc in omega arith
-
 pub sizes : Sizes
 sizes =
     record {
       texts = λ letter s flat t bs. of-taken _ (rw t at (kind-fits s (kindOf letter) (λ e. bs)));
-      others = λ letter s flat f. of-taken _ (rw f at (kind-fits s (kindOf letter) (λ e. absurd (clash (isText (kindOf letter)) f e))));
+      others = λ letter s flat f. of-taken _ (rw f at (kind-fits s (kindOf letter) (λ e. clash e f)));
       system = λ s flat e t. of-taken _ (system-has s t) e;
       stamped = λ s flat e a b. of-taken _ (stamped-has s a b) e;
       plain = λ s flat e a. of-taken _ (plain-has s a) e;

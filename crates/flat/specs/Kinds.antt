@@ -6,6 +6,7 @@ use Rattle.flat_form.specs.Form.{Flat, noQuestion}
 use Rattle.flat_record.specs.Event.{eventDataFlat, typedDataFlat}
 use Rattle.flat_record.specs.Records.{entryFlat, getEntryFlat, recordPartFlat}
 use Rattle.flat_answers.specs.Answers.{allocationFlat, clearFlat, infoFlat, recordIdFlat, reserveFlat}
+use Rattle.flat.specs.Lengths.{lengthFlat}
 use Rattle.flat.specs.Letters.{kindOf}
 use Rattle.flat.specs.Requests.{requestFlat}
 use Rattle.flat.specs.Texts.{entryTextFlat, eventDataTextFlat, eventTextFlat, logTimeTextFlat, timeTextFlat, typedDataTextFlat}
@@ -27,6 +28,7 @@ otherFlat Question.EventData s = eventDataFlat s
 otherFlat Question.EventDataText s = eventDataTextFlat s
 otherFlat Question.TypedData s = typedDataFlat s
 otherFlat Question.TypedDataText s = typedDataTextFlat s
+otherFlat Question.Length s = lengthFlat s
 otherFlat Question.EventText s = eventTextFlat s
 otherFlat Question.TimeText s = timeTextFlat s
 otherFlat Question.LogTimeText s = logTimeTextFlat s

@@ -1,6 +1,8 @@
 pub mod Counts
 pub mod Kinds
+pub mod Lengths
 pub mod Letters
+pub mod Ported
 pub mod Requests
 pub mod Rows
 pub mod Sizes

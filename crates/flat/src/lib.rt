@@ -1,10 +1,12 @@
 // The flat form by a letter: bytes are decoded and written, or refused, and a refusal changes nothing.
+mod lengths;
 mod requests;
 mod texts;
 
 use answers::AnswerKind;
 use flat_form::SelAnswer;
 use flat_form::no_question;
+pub use lengths::length_of;
 pub use requests::requested;
 ghost use mathlib.Core.Path.{_≡_};
 ghost use Rattle.flat_form.specs.Form.{Gives};
@@ -31,6 +33,8 @@ pub enum Question {
     // Byte 12 of a record, and then three bytes of event data, which are read by its event type.
     TypedData,
     TypedDataText,
+    // The letter of a kind of answer, and a length of four bytes.
+    Length,
     // Event type, sensor type, offset.
     EventText,
     // A time of four bytes: as the Rust has it, and as the log's lines do.
@@ -74,6 +78,7 @@ fn upper_kind_of(letter: u8) -> Kind
 {
     match letter {
         b'D' => Kind::Other(Question::TypedData),
+        b'L' => Kind::Other(Question::Length),
         b'V' => Kind::Other(Question::TypedDataText),
         _ => Kind::NoKind,
     }
@@ -100,6 +105,7 @@ fn text_question(question: Question) -> bool
         Question::EventDataText => true,
         Question::TypedData => false,
         Question::TypedDataText => true,
+        Question::Length => false,
         Question::EventText => true,
         Question::TimeText => true,
         Question::LogTimeText => true,
@@ -129,6 +135,7 @@ fn other(question: Question, data: &[u8], out: &mut [u8]) -> SelAnswer
         Question::EventDataText => texts::event_data_text(data, out),
         Question::TypedData => flat_record::typed_data(data, out),
         Question::TypedDataText => texts::typed_data_text(data, out),
+        Question::Length => lengths::length(data),
         Question::EventText => texts::event_text(data, out),
         Question::TimeText => texts::time_text(data, out),
         Question::LogTimeText => texts::log_time_text(data, out),

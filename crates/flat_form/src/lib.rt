@@ -1,11 +1,16 @@
 // The flat form: one form of bytes for each decoded answer, what its writer answers, and the numbers in it, which are little-endian.
+use field::numbers::NO_RESERVATION;
+use field::numbers::TOO_LONG;
+use field::numbers::TOO_SHORT;
 use text::Written;
 ghost use mathlib.Core.Path.{_≡_};
 ghost use Prim.Native.Nat.{_+_, _≤_};
 ghost use lib.ListN.{length};
+ghost use mathlib.Core.List.{[], _∷_};
 ghost use Rattle.field.specs.Bits.{leBytes};
+ghost use Rattle.field.specs.Handed.{handed, noReservation, ported, short, tooLong};
 ghost use Rattle.text.specs.Text.{Put};
-ghost use Rattle.flat_form.specs.Form.{Gives, fromWritten, said, taken};
+ghost use Rattle.flat_form.specs.Form.{Gives, fromWritten, refusal, said, taken};
 
 // What the writer of a flat form answers: the number, and what it carries: 0 the bytes written, 4 those needed, a refusal its value.
 #[repr(C)]
@@ -38,6 +43,41 @@ pub fn refused(number: u32, value: usize) -> SelAnswer
     ensures { λ r. ⌜ r ≡ said number value ⌝ }
 {
     SelAnswer { number, value }
+}
+
+// An answer that is shorter than it has to be, one that is longer, and a reservation of 0.
+pub fn too_short(needed: usize) -> SelAnswer
+    ensures { λ r. ⌜ r ≡ refusal (short needed) ⌝ }
+{
+    refused(TOO_SHORT, needed)
+}
+
+pub fn too_long() -> SelAnswer
+    ensures { λ r. ⌜ r ≡ refusal tooLong ⌝ }
+{
+    refused(TOO_LONG, 0)
+}
+
+pub fn no_reservation() -> SelAnswer
+    ensures { λ r. ⌜ r ≡ refusal noReservation ⌝ }
+{
+    refused(NO_RESERVATION, 0)
+}
+
+// A number and what it carries, as the Rust has them: it does not tell these three apart.
+pub fn ported(number: u32, value: usize) -> SelAnswer
+    ensures { λ r. ⌜ r ≡ refusal (ported (handed number (value ∷ []))) ⌝ }
+{
+    if number == TOO_SHORT {
+        return refused(TOO_SHORT, 0);
+    }
+    if number == TOO_LONG {
+        return refused(TOO_SHORT, 0);
+    }
+    if number == NO_RESERVATION {
+        return refused(TOO_SHORT, 0);
+    }
+    refused(number, value)
 }
 
 // The bytes are no question of the kind that was asked.

@@ -1,5 +1,6 @@
--- `other` meets its contract: each question has its own function. Assumes nothing.
+-- `other` meets its contract: each question has its own function, and all but one write. Assumes nothing.
 use borrow.Author.Needs.{needs}
+use Rattle.flat.proofs.LengthSaid.{length-gives}
 use Rattle.flat.proofs.other.Statement.{statement}
 use Rattle.flat.proofs.other.Tie as tie
 
@@ -22,7 +23,7 @@ returns-6 : tie.Need-returns-6
 returns-6 c = rw (c .before .before .before .before .enum-told6 .given .1) (search needs)
 
 returns-7 : tie.Need-returns-7
-returns-7 c = rw (c .before .before .before .before .enum-told7 .given .1) (search needs)
+returns-7 c = rw (c .before .enum-told7 .given .1) (length-gives _ _ (c .length .ensures))
 
 returns-8 : tie.Need-returns-8
 returns-8 c = rw (c .before .before .before .before .enum-told8 .given .1) (search needs)
@@ -36,10 +37,15 @@ returns-10 c = rw (c .before .before .before .before .enum-told10 .given .1) (se
 returns-11 : tie.Need-returns-11
 returns-11 c = rw (c .before .before .before .before .enum-told11 .given .1) (search needs)
 
+returns-12 : tie.Need-returns-12
+returns-12 c = rw (c .before .before .before .before .enum-told12 .given .1) (search needs)
+
 pub other-spec : {M : Type 1} → statement M
 other-spec =
     tie.close
     (tie.spec
+    (λ c. search needs)
+    (λ c κs. search needs)
     (λ c. search needs)
     (λ c κs. search needs)
     (λ c. search needs)
@@ -74,7 +80,6 @@ other-spec =
     returns-5
     (λ c. search needs)
     returns-6
-    (λ c. search needs)
     returns-7
     (λ c. search needs)
     returns-8
@@ -83,4 +88,6 @@ other-spec =
     (λ c. search needs)
     returns-10
     (λ c. search needs)
-    returns-11)
+    returns-11
+    (λ c. search needs)
+    returns-12)

@@ -3,6 +3,7 @@ use connection::Channel;
 use connection::LogicalUnit;
 use connection::NewChannel;
 use connection::NewUnit;
+use field::numbers::INVALID_CHANNEL;
 use flat_form::SelAnswer;
 use flat_form::no_question;
 use flat_form::refused;
@@ -20,7 +21,7 @@ pub extern "C" fn sel_channel(number: u8) -> SelAnswer
             number: 0,
             value: channel.value() as usize,
         },
-        NewChannel::Invalid(n) => refused(3, n as usize),
+        NewChannel::Invalid(n) => refused(INVALID_CHANNEL, n as usize),
     }
 }
 

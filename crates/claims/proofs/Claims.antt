@@ -1,8 +1,14 @@
 -- The claims hold. Assumes nothing.
+use mathlib.Core.Path.{ap, _∙_}
+use Rattle.connection.specs.Channel.{validChannel}
 use Rattle.storage.proofs.LogTimes.{log-times}
 use Rattle.typed_data.proofs.Readings.{readings}
 use Rattle.event_offset.proofs.SharedTexts.{shared-texts}
+use Rattle.answers.specs.RustAnswers.{asRust}
+use Rattle.answers.proofs.Ported.{ported-answers}
+use Rattle.answers.proofs.WhatWasShort.{lengths-needed, what-was-short}
 use Rattle.flat_record.proofs.Parsed.{flat-of-parsed}
+use Rattle.flat.proofs.Ported.{flat-ported}
 use Rattle.record_line.proofs.Bytes.{same-line}
 use Rattle.record_line.proofs.PrintedData.{printed-data}
 use Rattle.record_line.proofs.PrintedTime.{printed-time}
@@ -28,6 +34,9 @@ demand-2 =
       writes = writes;
       flats = flat-of-parsed;
       lines = same-line;
+      answers = λ kind s r p n. ap (asRust kind) (p .decoded) ∙ ported-answers validChannel kind s .same n;
+      ported = ported-answers validChannel;
+      flatPorted = flat-ported;
     }
 
 pub claims : Claims
@@ -44,4 +53,6 @@ claims =
       printedTimes = printed-time;
       readings = readings;
       printedData = printed-data;
+      whatWasShort = what-was-short validChannel;
+      lengthsNeeded = lengths-needed;
     }

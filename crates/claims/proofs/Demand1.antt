@@ -80,18 +80,22 @@ channels n = (λ v. by (decLe n 0xB) (ℕ-discrete n 0xE) (ℕ-discrete n 0xF) v
     back (inr (inl h)) = simp h
     back (inr (inr h)) = simp h
 
--- each row has one of the numbers 0 to 3
+-- each row has one of the numbers 0 to 3, 8 and 9
 record-one : (s : List ℕ) (h : Handed) → RecordRow validChannel s h → OneOf h
 record-one s _ (Record.accepted g) = inl refl
 record-one s _ (Record.unknown u) = inr (inr (inl refl))
-record-one s _ (Record.invalid i) = inr (inr (inr refl))
+record-one s _ (Record.invalid i) = inr (inr (inr (inl refl)))
 
 taken-one : (h : Handed) → Taken h → OneOf h
 taken-one _ accepted = inl refl
 
 reserve-one : (s : List ℕ) (h : Handed) → ReserveRow s h → OneOf h
 reserve-one s _ (Reserve.accepted z) = inl refl
-reserve-one s _ (Reserve.none z) = inr (inl refl)
+reserve-one s _ (Reserve.none z) = inr (inr (inr (inr (inr refl))))
+
+info-one : (s : List ℕ) (h : Handed) → InfoRow s h → OneOf h
+info-one s _ (Info.accepted l) = inl refl
+info-one s _ (Info.longer l) = inr (inr (inr (inr (inl refl))))
 
 long-one : {n : ℕ} {s : List ℕ} {R : Handed → Type 0} → ((h : Handed) → R h → OneOf h) → (h : Handed) → LongEnough n s R h → OneOf h
 long-one rest _ (tooShort l) = inr (inl refl)
@@ -100,11 +104,7 @@ long-one rest h (long l r) = rest h r
 one-row : (kind : AnswerKind) (s : List ℕ) (h : Handed) → Row validChannel kind s h → OneOf h
 one-row AnswerKind.Entry s = long-one (record-one s)
 one-row AnswerKind.GetEntry s = long-one (record-one (drop 2 s))
-one-row AnswerKind.Info s = info-one
-  where
-    info-one : (h : Handed) → InfoRow s h → OneOf h
-    info-one _ (Info.accepted l) = inl refl
-    info-one _ (Info.other l) = inr (inl refl)
+one-row AnswerKind.Info s = long-one (info-one s)
 one-row AnswerKind.Allocation s = long-one taken-one
 one-row AnswerKind.Reserve s = long-one (reserve-one s)
 one-row AnswerKind.Clear s = long-one taken-one
@@ -121,7 +121,9 @@ one-not-four : (h : Handed) → OneOf h → h .number ≡ 4 → ⊥
 one-not-four h (inl a) e = omega arith
 one-not-four h (inr (inl a)) e = omega arith
 one-not-four h (inr (inr (inl a))) e = omega arith
-one-not-four h (inr (inr (inr a))) e = omega arith
+one-not-four h (inr (inr (inr (inl a)))) e = omega arith
+one-not-four h (inr (inr (inr (inr (inl a))))) e = omega arith
+one-not-four h (inr (inr (inr (inr (inr a))))) e = omega arith
 
 decided-not-four : (kind : AnswerKind) (s bytes : List ℕ) → NotFour (decided (handsOf validChannel kind s) bytes)
 unfolding decided
@@ -142,8 +144,22 @@ request-not-four command reservation argument =
     (either NotFour (eqb command 0x43) _ _ tt
     (chosen (eqb command 0x47) _ (either NotFour (eqb argument 0x00AA) _ _ tt (chosen (eqb argument 0x0000) _ tt))))
 
+length-not-four : (letter n : ℕ) → NotFour (lengthOf letter n)
+unfolding decided
+length-not-four letter n = by (kindOf letter)
+  where
+    one : (a : LengthAnswer) → lengthNumber a .number ≡ 4 → ⊥
+    one LengthAnswer.MayBeRead e = omega arith
+    one (LengthAnswer.NotEnoughData k) e = omega arith
+    one LengthAnswer.TooLong e = omega arith
+
+    by : (kind : Kind) → NotFour (ofAnswer (λ k. decided (lengthHands k n) []) noQuestion kind)
+    by (Kind.Answer kind) = either NotFour (eqb (lengthHands kind n .number) 0) _ _ tt (one (lengthAnswer kind n))
+    by (Kind.Other question) = none
+    by Kind.NoKind = none
+
 not-four : (kind : Kind) (s : List ℕ) → NotFour (flatBy kind s)
-unfolding recordPartFlat entryTextFlat eventDataFlat eventDataTextFlat typedDataFlat typedDataTextFlat eventTextFlat timeTextFlat logTimeTextFlat recordIdFlat requestFlat
+unfolding lengthFlat recordPartFlat entryTextFlat eventDataFlat eventDataTextFlat typedDataFlat typedDataTextFlat eventTextFlat timeTextFlat logTimeTextFlat recordIdFlat requestFlat
 not-four (Kind.Answer kind) s = subst NotFour (sym (decides-flat kind .1 s)) (decided-not-four kind s _)
 not-four (Kind.Other Question.EntryText) s = decided-not-four AnswerKind.Entry s _
 not-four (Kind.Other Question.RecordPart) s = tt
@@ -151,6 +167,7 @@ not-four (Kind.Other Question.EventData) s = chosen (eqb (length s) 3) _ tt
 not-four (Kind.Other Question.EventDataText) s = chosen (eqb (length s) 3) _ tt
 not-four (Kind.Other Question.TypedData) s = chosen (eqb (length s) 4) _ tt
 not-four (Kind.Other Question.TypedDataText) s = chosen (eqb (length s) 4) _ tt
+not-four (Kind.Other Question.Length) s = chosen (eqb (length s) 5) _ (length-not-four (byteAt s 0) (le32At s 1))
 not-four (Kind.Other Question.EventText) s = chosen (eqb (length s) 3) _ tt
 not-four (Kind.Other Question.TimeText) s = chosen (eqb (length s) 4) _ tt
 not-four (Kind.Other Question.LogTimeText) s = chosen (eqb (length s) 4) _ tt

@@ -209,7 +209,7 @@ unfolding parseEntry systemRecord systemBy stampedRecord plainRecord
 fate s = by (ltb (length s) 16) (eqb (typeAt s) 0x02) (validChannel (channelIn s)) (within 0xC0 0xDF (typeAt s)) (within 0xE0 0xFF (typeAt s))
   where
     by : (short two valid stamped plain : Bool)
-        → Fate (if short then refusedFor ParseEntryError.NotEnoughData else
+        → Fate (if short then refusedFor (ParseEntryError.NotEnoughData 16) else
         if two then (if valid then systemBy (generatorAt (byteAt s 7) (byteAt s 8)) s else refusedFor (ParseEntryError.InvalidChannel (channelIn s))) else
         if stamped then stampedRecord s else
         if plain then plainRecord s else
@@ -241,7 +241,7 @@ refused-answer s r why p f = by (ltb (length s) 18) refl
   where
     by : (b : Bool) → ltb (length s) 18 ≡ b → r .oem ≡ replicate 13 0
     by true t =
-        let e : r ≡ record { answer = EntryInfoAnswer.Refused ParseEntryError.NotEnoughData; oem = noOem } = p .decoded ∙ rw t in
+        let e : r ≡ record { answer = EntryInfoAnswer.Refused (ParseEntryError.NotEnoughData 18); oem = noOem } = p .decoded ∙ rw t in
         ap (λ (x : ParsedEntryInfo). x .oem) e
     by false t =
         let q = parseEntry validChannel (drop 2 s) in

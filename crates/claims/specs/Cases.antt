@@ -41,8 +41,8 @@ pub record OneSlot (s old : List ℕ) : Type 0 where
   pub room : 1 ≤ length old
 
 pub record Cases : Type 0 where
-  -- entry of 15 bytes: 1
-  pub entry15 : (s : List ℕ) (r : ParsedEntry) → Promised AnswerKind.Entry r s → length s ≡ 15 → numberOf AnswerKind.Entry r ≡ handed 1 []
+  -- entry of 15 bytes: 1 with 16
+  pub entry15 : (s : List ℕ) (r : ParsedEntry) → Promised AnswerKind.Entry r s → length s ≡ 15 → numberOf AnswerKind.Entry r ≡ handed 1 (16 ∷ [])
   -- type 03h: 2 with 03h
   pub type03 : (s : List ℕ) (r : ParsedEntry) → Promised AnswerKind.Entry r s → 16 ≤ length s → byteAt s 2 ≡ 0x03
       → numberOf AnswerKind.Entry r ≡ handed 2 (0x03 ∷ [])
@@ -52,11 +52,11 @@ pub record Cases : Type 0 where
   -- info byte 0 = 51h: major 1, minor 5
   pub info51 : (s : List ℕ) (r : InfoAnswer) → Promised AnswerKind.Info r s → length s ≡ 14 → byteAt s 0 ≡ 0x51
       → (i : Info) × (r ≡ InfoAnswer.Accepted i) × (i .«version_maj» ≡ 1) × (i .«version_min» ≡ 5)
-  -- allocation of 8 bytes: 1; of 9: accepted
-  pub alloc8 : (s : List ℕ) (r : AllocAnswer) → Promised AnswerKind.Allocation r s → length s ≡ 8 → numberOf AnswerKind.Allocation r ≡ handed 1 []
+  -- allocation of 8 bytes: 1 with 9; of 9: accepted
+  pub alloc8 : (s : List ℕ) (r : AllocAnswer) → Promised AnswerKind.Allocation r s → length s ≡ 8 → numberOf AnswerKind.Allocation r ≡ handed 1 (9 ∷ [])
   pub alloc9 : (s : List ℕ) (r : AllocAnswer) → Promised AnswerKind.Allocation r s → length s ≡ 9 → numberOf AnswerKind.Allocation r .number ≡ 0
-  -- reserve 00h 00h: 1
-  pub reserve0000 : (rest : List ℕ) (r : ReserveAnswer) → Promised AnswerKind.Reserve r (0x00 ∷ 0x00 ∷ rest) → numberOf AnswerKind.Reserve r ≡ handed 1 []
+  -- reserve 00h 00h: 9
+  pub reserve0000 : (rest : List ℕ) (r : ReserveAnswer) → Promised AnswerKind.Reserve r (0x00 ∷ 0x00 ∷ rest) → numberOf AnswerKind.Reserve r ≡ handed 9 []
   -- clear 11h: completed; 02h: in progress
   pub clear11 : (rest : List ℕ) (r : ClearAnswer) → Promised AnswerKind.Clear r (0x11 ∷ rest) → r ≡ ClearAnswer.Accepted ErasureProgress.Completed
   pub clear02 : (rest : List ℕ) (r : ClearAnswer) → Promised AnswerKind.Clear r (0x02 ∷ rest) → r ≡ ClearAnswer.Accepted ErasureProgress.InProgress

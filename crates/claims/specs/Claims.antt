@@ -1,11 +1,14 @@
 -- What is claimed of the port, whole: the three demands, the cases that its rules mark as proved, what the header of the library for C says,
 -- and what was asked for since: what two equal entries may differ in, texts that share their bytes, times before the
--- clock was set, and event data by event type. Assumes nothing.
+-- clock was set, event data by event type, and what was short. Assumes nothing.
 use Prim.Native.Nat.{ℕ}
 use mathlib.Core.List.{List}
+use Rattle.connection.specs.Channel.{validChannel}
 use Rattle.storage.specs.LogTimes.{LogTimes}
 use Rattle.typed_data.specs.Readings.{Readings}
 use Rattle.event_offset.specs.SharedTexts.{SharedTexts}
+use Rattle.answers.specs.WhatWasShort.{LengthsNeeded, WhatWasShort}
+use Rattle.answers.specs.declared.AnswerKind.{AnswerKind}
 use Rattle.record_line.specs.PrintedData.{PrintedData}
 use Rattle.record_line.specs.PrintedTime.{PrintedTime}
 use Rattle.claims.specs.Cases.{Cases}
@@ -30,3 +33,6 @@ pub record Claims : Type 0 where
   -- event data by event type, and the lines that have it
   pub readings : Readings
   pub printedData : (s : List ℕ) → PrintedData s
+  -- what a refusal of an answer says, and the length that each kind needs
+  pub whatWasShort : (kind : AnswerKind) (s : List ℕ) → WhatWasShort validChannel kind s
+  pub lengthsNeeded : LengthsNeeded

@@ -43,9 +43,9 @@ use Rattle.claims.specs.Promises.{Promised}
 abbrev pub Valid : ℕ → Type 0
 Valid n = (n ≤ 0xB) ⊎ (n ≡ 0xE) ⊎ (n ≡ 0xF)
 
--- one of the numbers 0 to 3
+-- one of the numbers 0 to 3, 8 and 9
 abbrev pub OneOf : Handed → Type 0
-OneOf h = (h .number ≡ 0) ⊎ (h .number ≡ 1) ⊎ (h .number ≡ 2) ⊎ (h .number ≡ 3)
+OneOf h = (h .number ≡ 0) ⊎ (h .number ≡ 1) ⊎ (h .number ≡ 2) ⊎ (h .number ≡ 3) ⊎ (h .number ≡ 8) ⊎ (h .number ≡ 9)
 
 -- the first k lines of an input are good: by the theorem `RoundTrip` of slot_line, each is the text of a slot, closed by a newline
 abbrev pub GoodLines : List ℕ → ℕ → Type 0
@@ -64,7 +64,7 @@ abbrev pub OneTooMany : List ℕ → Type 0
 OneTooMany input = (3000 < length (lines input)) × GoodLines input 3001
 
 pub record Demand1 : Type 0 where
-  -- rows 0 to 3: whatever a parser answers, its number is given, with what it carries, exactly when the row of its kind says
+  -- rows 0 to 3, 8 and 9: whatever a parser answers, its number is given, with what it carries, exactly when the row of its kind says
   pub parsed : (kind : AnswerKind) (s : List ℕ) (r : Answer kind) → Promised kind r s → Rows (numberOf kind r) (Row validChannel kind s)
   -- and one of them is given
   pub decided : (kind : AnswerKind) (s : List ℕ) (r : Answer kind) → Promised kind r s → OneOf (numberOf kind r)

@@ -1,9 +1,10 @@
 """The questions of the program `replay`, in the order of crates/replay/stdin.
 
-Their answers, crates/replay/stdout, come from four places: from model.py for lines that begin with p, w, s, D or V, which the Rust
-does not have (of lines that begin with = the model and the Rust must say the same, and so must s and t of the times, and D and d, V and v of the event types, that the rules leave alone); from dump.py for the words `entry` and `answer`, whose accepted answers are lines of `seldump`, out of the Rust's own
-answers; from panics.txt where the Rust panics; from the Rust for every other line. That a line is no question, `?`, is
-said by the program that asks the Rust (src/main.rs), or by model.py.
+Their answers, crates/replay/stdout, come from four places: from model.py for lines that begin with p, w, s, D, V, L or `ported`, which the Rust
+does not have, and for what is refused by its length or by a reservation of 0, which it tells less of (judge.py: mapped back it must be the Rust's; of lines
+that begin with = the two must say the same, and so must s and t of the times, and D and d, V and v of the event types, that the rules leave alone); from dump.py for
+the words `entry` and `answer`, whose accepted answers are lines of `seldump`, out of the Rust's own answers; from panics.txt where the Rust panics, which the model
+must say too; from the Rust for every other line. That a line is no question, `?`, is said by the program that asks the Rust (src/main.rs), or by model.py.
 """
 
 
@@ -137,6 +138,24 @@ def lengths():
             yield question(kind, (good + mixed(length))[:length])
 
 
+def lengths_alone():
+    """A letter of an answer and a length, before there is a byte: small ones, those that a byte or a word would cut to a good one, and the largest; every other letter."""
+    good = sorted({len(answer) for answer in GOOD.values()})
+    for letter in b"egiarc":
+        for length in (*range(41), 127, 128, 255, *(base + g for base in (2**8, 2**16, 2**24, 2**31) for g in (0, *good)), 2**32 - 1):
+            yield question("L", bytes([letter]) + length.to_bytes(4, "little"))
+    for letter in range(256):
+        if letter not in b"egiarc":
+            yield question("L", bytes([letter]) + (16).to_bytes(4, "little"))
+
+
+def mapped_back():
+    """Every number of the table and many that are none, with what it may carry."""
+    for number in (*range(256), 2**8 + 1, 2**16 + 8, 2**24 + 9, 2**32 - 1):
+        for value in (0, 9, 0xFFFF):
+            yield question("ported", number.to_bytes(4, "little") + word(value))
+
+
 def eight_answers():
     """The 144 bytes of a whole log, which no reader may take for one answer of that length."""
     for kind in GOOD:
@@ -161,7 +180,8 @@ def fields():
     yield from every_value("i", INFO, 13)
     yield from every_value("c", b"\x00", 0)
     for id in (*WORDS, 0x0002, 0x00FE, 0x0101):
-        yield question("r", word(id))
+        for length in range(4):  # of zeros too: length before reservation
+            yield question("r", (word(id) + b"\x00")[:length])
 
 
 def oem_records():
@@ -376,15 +396,16 @@ def parsed(asked):
             yield name + line[1:]
 
 
-LETTERS = "eygpiarcdvDVxtsnqw="
-FIXED = {"d": 3, "v": 3, "D": 4, "V": 4, "x": 3, "t": 4, "s": 4, "n": 2, "channel": 1, "unit": 1, "=": 32}
+LETTERS = "eygpiarcdvDVLxtsnqw="
+WORDED = ("channel", "unit", "ported")
+FIXED = {"d": 3, "v": 3, "D": 4, "V": 4, "L": 5, "x": 3, "t": 4, "s": 4, "n": 2, "channel": 1, "unit": 1, "ported": 6, "=": 32}
 
 
 def malformed():
     """What answers `?`, as far as it stands in one line."""
     yield ""
     yield from (chr(c) for c in (0x00, 0x09, 0x0D, 0x20, 0x7F, 0xE9))
-    for kind in (*LETTERS, "channel", "unit", *PARSERS.values()):
+    for kind in (*LETTERS, *WORDED, *PARSERS.values()):
         yield from (kind, kind + "00", kind.upper() + " 00", kind + kind + " 00", f" {kind} 00", f"{kind}  00", f"{kind}\t00", f"{kind}:00")
         data = bytes([0xAB]) * FIXED.get(kind, 18)
         good = question(kind, data)
@@ -406,7 +427,7 @@ def longest():
 
 LETTERED = [
     *channels_and_units(), *time_texts(), *allocations(), *event_data(), *typed_data(), *event_texts(),
-    *lengths(), *eight_answers(), *fields(), *timed_records(), *typed_records(), *oem_records(), *damages(), *texts_of_records(),
+    *lengths(), *lengths_alone(), *mapped_back(), *eight_answers(), *fields(), *timed_records(), *typed_records(), *oem_records(), *damages(), *texts_of_records(),
     *pairs(), *record_ids(), *requests(), *small_walks(), *walk_edges(), *long_walks(), *malformed(), *longest(),
 ]
 

@@ -16,13 +16,14 @@ const LINE: usize = 120203;
 
 const BYTES: usize = 60100;
 
-// What a line asks about: a letter's kind, or one of four words; or it is no question.
+// What a line asks about: a letter's kind, or one of five words; or it is no question.
 enum Asked {
     Letter(u8),
     Walk,
     Same,
     Channel,
     Unit,
+    Ported,
     Entry,
     Answer,
     Nothing,
@@ -130,6 +131,12 @@ fn question_in(line: &[u8]) -> Question {
             at: 5,
         };
     }
+    if starts_with(line, b"ported ") {
+        return Question {
+            asked: Asked::Ported,
+            at: 7,
+        };
+    }
     if starts_with(line, b"entry ") {
         return Question {
             asked: Asked::Entry,
@@ -155,6 +162,7 @@ fn answer_to(asked: Asked, data: &[u8]) {
         Asked::Same => sames::same(data),
         Asked::Channel => words::channel(data),
         Asked::Unit => words::unit(data),
+        Asked::Ported => words::ported(data),
         Asked::Entry => parsers::entry(data),
         Asked::Answer => parsers::answer(data),
         Asked::Nothing => say(b"?"),

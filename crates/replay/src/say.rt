@@ -42,25 +42,20 @@ pub(crate) fn say_bytes(s: &[u8]) {
     say(up_to(&digits, n));
 }
 
-// A refusal: 4 with the length needed, in four digits; 2 and 3 with a value of two; any other number alone.
+// A refusal: 2 and 3 with a value of two digits; 1 and 4 with the length needed, in four; any other number alone.
 pub(crate) fn say_refusal(number: u32, value: usize) {
     let mut digits = [0u8; 10];
     let n = text::put_decimal(number, &mut digits, 0);
     say(up_to(&digits, n));
-    if number == 4 {
-        say(b" ");
-        say_hex4((value % 65536) as u16);
-    }
-    if carries_a_byte(number) {
-        say(b" ");
-        say_hex((value % 256) as u8);
-    }
-}
-
-fn carries_a_byte(number: u32) -> bool {
     match number {
-        2 => true,
-        3 => true,
-        _ => false,
+        1 | 4 => {
+            say(b" ");
+            say_hex4((value % 65536) as u16);
+        }
+        2 | 3 => {
+            say(b" ");
+            say_hex((value % 256) as u8);
+        }
+        _ => {}
     }
 }

@@ -1,11 +1,14 @@
-// The words `channel` and `unit`, which are no answers and have no letter.
+// The words `channel`, `unit` and `ported`, which are no answers and have no letter.
 use crate::say::say;
 use crate::say::say_hex;
+use crate::say::say_le16;
 use connection::Channel;
 use connection::LogicalUnit;
 use connection::NewChannel;
 use connection::NewUnit;
 use field::byte_at;
+use field::le16_at;
+use field::le32_at;
 
 fn say_name(c: Channel) {
     match c {
@@ -43,4 +46,18 @@ pub(crate) fn unit(data: &[u8]) {
         NewUnit::Valid(u) => say_hex(u.value()),
         NewUnit::Invalid => say(b"none"),
     }
+}
+
+// A number (4) and what it carries (2), as the Rust has them.
+pub(crate) fn ported(data: &[u8]) {
+    if data.len() != 6 {
+        say(b"?");
+        return;
+    }
+    let answer = flat_form::ported(le32_at(data, 0), le16_at(data, 4) as usize);
+    let number = answer.number;
+    say(b"0 ");
+    say_le16((number % 65536) as u16);
+    say_le16((number / 65536) as u16);
+    say_le16((answer.value % 65536) as u16);
 }

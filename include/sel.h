@@ -5,9 +5,9 @@
  * of the same call. The pointer of an empty slice may be NULL (this is tested, not proved). Nothing lent is kept, nothing outside it is read or written, nothing is
  * allocated, and every call ends. The statements: crates/abi has each contract, crates/claims what is said here beyond them.
  *
- * Numbers handed back (docs/SCOPE.md): 0 accepted, 1 not enough data, 2 unknown record type, 3 invalid channel, 4 no room, 5 bad capture;
- * 255 no such letter, command or number, or not the bytes of one. Where the number is not 0, every lent slice is as it was. Where it is 0, what
- * stands behind the bytes written is as it was. */
+ * Numbers handed back (docs/SCOPE.md): 0 accepted, 1 too short, 2 unknown record type, 3 invalid channel, 4 no room, 5 bad capture, 8 too long,
+ * 9 a reservation of 0; 255 no such letter, command or number, or not the bytes of one. Where the number is not 0, every lent slice is as it was.
+ * Where it is 0, what stands behind the bytes written is as it was. */
 #ifndef SEL_H
 #define SEL_H
 
@@ -19,8 +19,8 @@ extern "C" {
 #endif
 
 /* number: as above.
- * value:  what it carries: the bytes written where the number is 0, or of sel_channel and sel_unit the number asked; the record type where it
- *         is 2, the channel where it is 3, the length needed where it is 4; else 0. */
+ * value:  what it carries: the bytes written where the number is 0, or of sel_channel and sel_unit the number asked; the bytes that the answer
+ *         needs where it is 1, the record type where it is 2, the channel where it is 3, the room needed where it is 4; else 0. */
 typedef struct SelAnswer {
     uint32_t number;
     size_t value;
@@ -35,11 +35,11 @@ typedef struct SelAnswer {
  *     type, offset, then kind and value of event data bytes 2 and 3, both 00 where unspecified (also where the value is FFh);
  *   OEM with a time (C0h to DFh), 18 bytes: 01, id (2), type, time (4), maker (4), six bytes;
  *   OEM without (E0h to FFh), 17 bytes: 02, id (2), type, thirteen bytes.
- * 1 under 16 bytes; 2 with the type for any other type; 3 with the channel for a system event on channel Ch or Dh; then 4. */
+ * 1 with 16 under 16 bytes; 2 with the type for any other type; 3 with the channel for a system event on channel Ch or Dh; then 4. */
 SelAnswer sel_entry(const uint8_t *data, size_t data_length, uint8_t *out, size_t out_length);
 
 /* number:  0, or the number that sel_entry refuses the record with: 1, 2 or 3.
- * value:   what that carries: the record type where it is 2, the channel where it is 3; else 0.
+ * value:   what that carries: 16 where it is 1, the record type where it is 2, the channel where it is 3; else 0.
  * same:    1 exactly if both records are accepted and their entries are equal; else 0.
  * refused: which record is refused, 1 for a or 2 for b; 0 where neither is. */
 typedef struct SelSame {
@@ -58,11 +58,11 @@ typedef struct SelSame {
 SelSame sel_same_entry(const uint8_t *a, size_t a_length, const uint8_t *b, size_t b_length);
 
 /* The answer to Get SEL Entry, without the completion code. Writes the next id (2), and then as sel_entry does of the bytes from the third on.
- * 1 under 18 bytes; then as sel_entry; 4 needs two bytes more. */
+ * 1 with 18 under 18 bytes; then 2 and 3 as sel_entry; 4 needs two bytes more. */
 SelAnswer sel_get_entry(const uint8_t *data, size_t data_length, uint8_t *out, size_t out_length);
 
 /* The answer to Get SEL Allocation Info. Writes 9 bytes: units (2), unit size (2), free units (2), largest free block (2), maximum record size.
- * 1 under 9 bytes; then 4. */
+ * 1 with 9 under 9 bytes; then 4. */
 SelAnswer sel_allocation(const uint8_t *data, size_t data_length, uint8_t *out, size_t out_length);
 
 /* Any kind of bytes, by its letter; 255 for any other letter.
@@ -71,26 +71,34 @@ SelAnswer sel_allocation(const uint8_t *data, size_t data_length, uint8_t *out, 
  *   g  the answer to Get SEL Entry: sel_get_entry
  *   p  the same answer: its sixteen record bytes; none under 18 bytes, which is accepted with 0 bytes
  *   i  the answer to Get SEL Info: major, minor, entries (2), free bytes (2), last add (4), last delete (4), overflow (0, 1), the mask of the
- *      supported commands (8 Delete, 4 Partial Add, 2 Reserve, 1 Get Allocation Info), their count; 1 unless it has exactly 14 bytes
+ *      supported commands (8 Delete, 4 Partial Add, 2 Reserve, 1 Get Allocation Info), their count; 1 with 14 under 14 bytes, 8 over 14
  *   a  the answer to Get SEL Allocation Info: sel_allocation
- *   r  the answer to Reserve SEL: reservation (2); 1 under 2 bytes, or where the reservation is 0
- *   c  the answer to Clear SEL: 01 completed, 00 in progress; 1 where it is empty
+ *   r  the answer to Reserve SEL: reservation (2); 1 with 2 under 2 bytes, then 9 where the reservation is 0
+ *   c  the answer to Clear SEL: 01 completed, 00 in progress; 1 with 1 where it is empty
  *   d  three bytes of event data: offset, kind 2, value 2, kind 3, value 3; kinds 0 unspecified, 1 reading or threshold, 2 OEM, 3 sensor-specific
  *   v  three bytes of event data: sel_data_text
  *   D  byte 12 of a record, and then three bytes of event data: offset, kind 2, value 2, kind 3, value 3, as sel_typed_data has them
  *   V  the same bytes: sel_typed_text
+ *   L  the letter of an answer, and a length (4): as sel_length, and writes nothing
  *   x  event type, sensor type, offset: sel_event_text
  *   t  a time (4): sel_time_text
  *   s  a time (4): sel_log_time_text
  *   n  a record id (2): 1 unless it is 0000h or FFFFh, which name no record; 1 for 0000h, which asks for the first; 1 for FFFFh, the last; the id (2)
  *   q  a request: 40h, 41h or 42h; 47h, reservation (2), AAh or 00h; 43h, reservation (2), record id (2): sel_request
- * 255 for another number of bytes than d, v, D, V, x, t, s, n and q have, and for a request that is none of these. Texts have at most
+ * 255 for another number of bytes than d, v, D, V, L, x, t, s, n and q have, and for a request that is none of these. Texts have at most
  * SEL_EVENT_TEXT (70) bytes, all others at most SEL_FLAT (24). */
 SelAnswer sel_decode(uint8_t kind, const uint8_t *data, size_t data_length, uint8_t *out, size_t out_length);
 
-/* What the length of an answer alone decides, before there is a byte of it: 1 exactly if sel_decode answers 1 for every answer of that length, which is
- * under 16 for e, under 18 for g, any but 14 for i, under 9 for a, under 2 for r, under 1 for c; else 0. 255 for any other letter. */
-uint32_t sel_length(uint8_t kind, size_t len);
+/* What the length of an answer alone decides, before there is a byte of it:
+ *   1 with the bytes needed, exactly if sel_decode answers so for every answer of that length: under 16 for e, under 18 for g, under 14 for i,
+ *     under 9 for a, under 2 for r, under 1 for c;
+ *   8, exactly if sel_decode answers 8 for every answer of that length: over 14 for i, and never for the others;
+ *   else 0: some answer of that length is accepted. 255 for any other letter. */
+SelAnswer sel_length(uint8_t kind, size_t len);
+
+/* A refusal as the original Rust tells it, which does not tell 1, 8 and 9 apart: each of them becomes 1 with 0; every other number, with its value,
+ * stays. So mapped, what sel_decode answers of e, g, i, a, r and c is the original's answer, wherever the original returns. */
+SelAnswer sel_ported(uint32_t number, size_t value);
 
 /* How many bytes of an answer count: 16 for e, 18 for g, 14 for i, 9 for a, 2 for r, 1 for c; 0 for any other letter. Where sel_length says 0, the
  * answer has so many, and sel_decode answers and writes the same for these alone as for all of it. So whoever asks sel_length first, and then takes

@@ -151,10 +151,10 @@ pub extern "C" fn sel_length(kind: u8, len: usize) -> u32
     0
 }
 ''',
-    HEADER: '''/* A record of the log, 16 bytes or more: 1 under 16 bytes; 2 with the type. 1 under 18 bytes; then as sel_entry.
- * 1 under 9 bytes; then 4. 1 unless it has exactly 14 bytes. 1 under 2 bytes, or where the reservation is 0.
- * Refused: under 16 for e, under 18 for g, any but 14 for i, under 9 for a, under 2 for r,
- * under 1 for c. Counted: 16 for e, 18 for g, 14 for i, 9 for a, 2 for r, 1 for c; else 0. */
+    HEADER: '''/* A record of the log, 16 bytes or more: 1 with 16 under 16 bytes; 2 with the type. 1 with 18 under 18 bytes; then 2 and 3 as sel_entry.
+ * 1 with 9 under 9 bytes; then 4. 1 with 14 under 14 bytes, 8 over 14. 1 with 2 under 2 bytes, then 9. 1 with 1 where it is empty.
+ * value: 16 where it is 1, the record type where it is 2. Refused: under 16 for e, under 18 for g, under 14 for i, under 9 for a, under 2 for r,
+ * under 1 for c; over 14 for i, and never for the others. Counted: 16 for e, 18 for g, 14 for i, 9 for a, 2 for r, 1 for c; 0 else. */
 #ifndef SEL_H
 #define SEL_H
 
@@ -261,9 +261,9 @@ CHANGED = [
     (ABI, 'len: usize', 'len: u64', 'cannot be read: parameter len:u64'),
     (ABI, 'len: usize) -> u32', 'len: usize) -> u8', 'include/sel.h: uint32_t sel_length('),
     (ABI, '    pub value: u32,\n', '    pub value: u32,\n    pub more: u32,\n', 'SelAnswer has over 16 bytes'),
-    ('crates/field/specs/Lengths.antt', 'infoBytes = 14', 'infoBytes = 15', 'include/sel.h does not say: 1 unless it has exactly 15 bytes'),
+    ('crates/field/specs/Lengths.antt', 'infoBytes = 14', 'infoBytes = 15', 'include/sel.h does not say: 1 with 15 under 15 bytes, 8 over 15'),
     (HEADER, '2 for r,', '3 for r,', 'include/sel.h does not say: under 16 for e'),
-    (HEADER, 'under 18 bytes', 'under 17 bytes', 'include/sel.h does not say: 1 under 18 bytes'),
+    (HEADER, '1 with 18', '1 with 16', 'include/sel.h does not say: 1 with 18 under 18 bytes'),
 ]
 
 

@@ -18,14 +18,17 @@ SIZES = [
 # The bytes that each letter's answer needs: what the header says of them, with the names of the definitions.
 LENGTHS = 'crates/field/specs/Lengths.antt'
 SAID = [
-    'under {entryBytes} for e, under {getEntryBytes} for g, any but {infoBytes} for i, under {allocationBytes} for a, under {reserveBytes} for r, under {clearBytes} for c',
-    '{entryBytes} for e, {getEntryBytes} for g, {infoBytes} for i, {allocationBytes} for a, {reserveBytes} for r, {clearBytes} for c;',
+    'under {entryBytes} for e, under {getEntryBytes} for g, under {infoBytes} for i, under {allocationBytes} for a, under {reserveBytes} for r, under {clearBytes} for c;',
+    'over {infoBytes} for i, and never for the others',
+    '{entryBytes} for e, {getEntryBytes} for g, {infoBytes} for i, {allocationBytes} for a, {reserveBytes} for r, {clearBytes} for c; 0',
     'A record of the log, {entryBytes} bytes or more',
-    '1 under {entryBytes} bytes; 2 with the type',
-    '1 under {getEntryBytes} bytes; then as sel_entry',
-    '1 under {allocationBytes} bytes; then 4',
-    '1 unless it has exactly {infoBytes} bytes',
-    '1 under {reserveBytes} bytes, or where the reservation is 0',
+    '1 with {entryBytes} under {entryBytes} bytes; 2 with the type',
+    '1 with {getEntryBytes} under {getEntryBytes} bytes; then 2 and 3 as sel_entry',
+    '1 with {allocationBytes} under {allocationBytes} bytes; then 4',
+    '1 with {infoBytes} under {infoBytes} bytes, 8 over {infoBytes}',
+    '1 with {reserveBytes} under {reserveBytes} bytes, then 9',
+    '1 with {clearBytes} where it is empty',
+    '{entryBytes} where it is 1, the record type where it is 2',
 ]
 WIDTH = {'u8': 1, 'u16': 2, 'u32': 4, 'usize': 8}
 MOST_RESULT = 16  # bytes: a result over these is handed back in another way on each machine

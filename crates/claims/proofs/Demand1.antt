@@ -2,14 +2,14 @@
 use Prim.Native.Nat.{ℕ, _≤_, _<_}
 use mathlib.Core.Path.{_≡_, refl, sym, ap, subst, _∙_}
 use mathlib.Core.Bool.{Bool, true, _||_}
-use mathlib.Core.List.{List}
+use mathlib.Core.List.{List, []}
 use mathlib.Core.Logic.{_↔_, inl, inr}
 use native.Mathlib.Omega.{arith}
 use native.Mathlib.Decide.{decLe, ℕ-discrete}
 use borrow.Author.Tests.{le-leb, lt-leb, ne-eqb}
 use lib.Dec.{eqb, leb}
 use lib.ListN.{length, drop}
-use Rattle.field.specs.Bits.{byteAt}
+use Rattle.field.specs.Bits.{byteAt, le32At}
 use Rattle.field.specs.Choose.{if_then_else_, within}
 use Rattle.field.specs.Handed.{Handed}
 use Rattle.field.specs.Rows.{LongEnough, Rows, Taken, accepted, long, tooShort}
@@ -26,8 +26,10 @@ use Rattle.sel_commands.specs.Info.{InfoRow}
 use Rattle.sel_commands.specs.Reserve as Reserve
 use Rattle.sel_commands.specs.Reserve.{ReserveRow}
 use Rattle.answers.specs.Answer.{Answer, numberOf}
+use Rattle.answers.specs.Length.{lengthAnswer, lengthHands, numberOf as lengthNumber}
 use Rattle.answers.specs.Rows.{Row, handsOf}
 use Rattle.answers.specs.declared.AnswerKind.{AnswerKind}
+use Rattle.answers.specs.declared.LengthAnswer.{LengthAnswer}
 use Rattle.answers.proofs.BytesThatCount.{bytes-that-count}
 use Rattle.answers.proofs.LengthDecides.{decides}
 use Rattle.answers.proofs.Rows.{answer-rows}
@@ -43,6 +45,7 @@ use Rattle.flat_record.specs.Event.{eventDataFlat, typedDataFlat}
 use Rattle.flat_record.specs.Records.{recordPartFlat}
 use Rattle.flat_answers.specs.Answers.{recordIdFlat}
 use Rattle.flat.specs.Kinds.{flatBy, flatOf}
+use Rattle.flat.specs.Lengths.{lengthFlat, lengthOf, ofAnswer}
 use Rattle.flat.specs.Letters.{kindOf}
 use Rattle.flat.specs.Requests.{clearOf, questionLength, requestFlat, requestOf}
 use Rattle.flat.specs.Texts.{entryTextFlat, eventDataTextFlat, eventTextFlat, logTimeTextFlat, timeTextFlat, typedDataTextFlat}

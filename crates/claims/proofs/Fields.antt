@@ -297,7 +297,7 @@ no-part s l = rw (lt-ltb (length s) 18 l)
 
 info : (s : List ℕ) (r : InfoAnswer) → Promised AnswerKind.Info r s → length s ≡ 14 → (i : Info) × (r ≡ InfoAnswer.Accepted i) × InfoFields s i
 unfolding parseInfo
-info s r p l = (infoAt s, p .decoded ∙ rw (eq-eqb (length s) 14 l), info-fields s)
+info s r p l = (infoAt s, p .decoded ∙ rw (le-ltb (length s) 14 (omega arith), le-ltb 14 (length s) (omega arith)), info-fields s)
 
 alloc : (s : List ℕ) (r : AllocAnswer) → Promised AnswerKind.Allocation r s → 9 ≤ length s → (i : AllocInfo) × (r ≡ AllocAnswer.Accepted i) × AllocFields s i
 unfolding parseAlloc

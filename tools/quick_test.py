@@ -151,7 +151,12 @@ pub extern "C" fn sel_length(kind: u8, len: usize) -> u32
     0
 }
 ''',
-    HEADER: '''/* A record of the log, 16 bytes or more: 1 with 16 under 16 bytes; 2 with the type. 1 with 18 under 18 bytes; then 2 and 3 as sel_entry.
+    'crates/field/specs/Handed.antt': ''.join(f'{x} = handed {n} []\n' for x, n in (
+        ('notEnoughData', 1), ('unknownType t', 2), ('invalidChannel n', 3), ('noRoom n', 4), ('badCapture', 5), ('tooLong', 8), ('noReservation', 9))),
+    RUST + 'refusal.rs': ''.join(f'const {x}: u32 = {n};\n' for x, n in (
+        ('TOO_SHORT', 1), ('UNKNOWN_TYPE', 2), ('INVALID_CHANNEL', 3), ('TOO_LONG', 8), ('NO_RESERVATION', 9))),
+    HEADER: '''/* 0 accepted, 1 too short, 2 unknown record type, 3 invalid channel, 4 no room, 5 bad capture, 8 too long, 9 a reservation of 0; 255.
+ * A record of the log, 16 bytes or more: 1 with 16 under 16 bytes; 2 with the type. 1 with 18 under 18 bytes; then 2 and 3 as sel_entry.
  * 1 with 9 under 9 bytes; then 4. 1 with 14 under 14 bytes, 8 over 14. 1 with 2 under 2 bytes, then 9. 1 with 1 where it is empty.
  * value: 16 where it is 1, the record type where it is 2. Refused: under 16 for e, under 18 for g, under 14 for i, under 9 for a, under 2 for r,
  * under 1 for c; over 14 for i, and never for the others. Counted: 16 for e, 18 for g, 14 for i, 9 for a, 2 for r, 1 for c; 0 else. */
@@ -264,6 +269,9 @@ CHANGED = [
     ('crates/field/specs/Lengths.antt', 'infoBytes = 14', 'infoBytes = 15', 'include/sel.h does not say: 1 with 15 under 15 bytes, 8 over 15'),
     (HEADER, '2 for r,', '3 for r,', 'include/sel.h does not say: under 16 for e'),
     (HEADER, '1 with 18', '1 with 16', 'include/sel.h does not say: 1 with 18 under 18 bytes'),
+    (HEADER, '9 a reservation', '10 a reservation', 'include/sel.h does not say: 0 accepted, 1 too short'),
+    ('crates/field/specs/Handed.antt', 'tooLong = handed 8', 'tooLong = handed 7', 'refusal.rs: TOO_LONG is 8, and tooLong is 7'),
+    (RUST + 'refusal.rs', 'NO_RESERVATION: u32 = 9', 'NO_RESERVATION: u32 = 1', 'refusal.rs: NO_RESERVATION is 1, and noReservation is 9'),
 ]
 
 

@@ -30,6 +30,13 @@ SAID = [
     '1 with {clearBytes} where it is empty',
     '{entryBytes} where it is 1, the record type where it is 2',
 ]
+# The numbers of refusals: what the header says of them, and the constants of Rust, with the names of the definitions.
+NUMBERS = 'crates/field/specs/Handed.antt'
+NAMED = ('0 accepted, {notEnoughData} too short, {unknownType} unknown record type, {invalidChannel} invalid channel, {noRoom} no room, {badCapture} bad capture, '
+         '{tooLong} too long, {noReservation} a reservation of 0;')
+CONSTANTS = [
+    ('TOO_SHORT', 'notEnoughData'), ('UNKNOWN_TYPE', 'unknownType'), ('INVALID_CHANNEL', 'invalidChannel'), ('TOO_LONG', 'tooLong'), ('NO_RESERVATION', 'noReservation'),
+]
 WIDTH = {'u8': 1, 'u16': 2, 'u32': 4, 'usize': 8}
 MOST_RESULT = 16  # bytes: a result over these is handed back in another way on each machine
 
@@ -148,13 +155,18 @@ def size_faults(root):
                 yield f'{HEADER}: a comment says {macro} ({number}), and {name} is {found[0]}'
 
 
-def length_faults(root):
-    """The header's comments name the lengths of the definitions."""
+def number_faults(root):
+    """The header's comments name the lengths and the numbers of the definitions, and so do the constants of Rust."""
     lengths = dict(re.findall(r'(?m)^(\w+Bytes) = (\d+)$', (root / LENGTHS).read_text()))
+    numbers = dict(re.findall(r'(?m)^(\w+)(?: \w+)? = handed (\d+) ', (root / NUMBERS).read_text()))
     header = ' '.join((root / HEADER).read_text().replace('\n *', ' ').split())
-    for said in SAID:
-        if said.format(**lengths) not in header:
-            yield f'{HEADER} does not say: {said.format(**lengths)}'
+    for said in (NAMED, *SAID):
+        if said.format(**lengths, **numbers) not in header:
+            yield f'{HEADER} does not say: {said.format(**lengths, **numbers)}'
+    file = f'{RUST}/refusal.rs'
+    constants = dict(re.findall(r'(?m)^const (\w+): u32 = (\d+);$', bare(root / file)))
+    yield from (f'{file}: {name} is {constants.get(name)}, and {definition} is {numbers[definition]}'
+                for name, definition in CONSTANTS if constants.get(name) != numbers[definition])
 
 
 def signature_faults(root):
@@ -165,6 +177,6 @@ def signature_faults(root):
         yield from header_faults(root, header)
         yield from ffi_faults(root, structs, functions, calls)
         yield from size_faults(root)
-        yield from length_faults(root)
+        yield from number_faults(root)
     except (OSError, ValueError, KeyError) as fault:  # a file that is not there, or not of the form that is read here
         yield f'signatures: {fault}'

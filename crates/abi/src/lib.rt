@@ -36,9 +36,6 @@ ghost use Rattle.flat.specs.Lengths.{lengthSaid};
 ghost use Rattle.flat.specs.Requests.{requestOf};
 ghost use Rattle.abi.specs.Questions.{letterBytes};
 
-// A letter, command or number that there is none of.
-pub(crate) const NO_QUESTION: u32 = 255;
-
 // A record.
 #[no_mangle]
 pub extern "C" fn sel_entry(data: &[u8], out: &mut [u8]) -> SelAnswer

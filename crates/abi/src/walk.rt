@@ -2,6 +2,8 @@
 use capture::Found;
 use capture::SlotsAnswer;
 use capture::Verdict;
+use field::numbers::BAD_CAPTURE;
+use field::numbers::NO_ROOM;
 use ids::RecordId;
 ghost use mathlib.Core.Path.{_≡_};
 ghost use Rattle.capture.specs.Length.{slotsHands};
@@ -32,7 +34,7 @@ pub extern "C" fn sel_slots_length(len: usize) -> u32
 {
     match capture::slots_answer(len) {
         SlotsAnswer::MayBeWalked => 0,
-        SlotsAnswer::BadCapture => 5,
+        SlotsAnswer::BadCapture => BAD_CAPTURE,
     }
 }
 
@@ -80,14 +82,14 @@ pub extern "C" fn sel_walk(slots: &[u8], budget: usize, list: &mut [u16]) -> Sel
             needed: 0,
         },
         Verdict::NoRoom(n) => SelWalk {
-            number: 4,
+            number: NO_ROOM,
             verdict: 0,
             ask: 0,
             read: 0,
             needed: n as u32,
         },
         Verdict::BadCapture => SelWalk {
-            number: 5,
+            number: BAD_CAPTURE,
             verdict: 0,
             ask: 0,
             read: 0,

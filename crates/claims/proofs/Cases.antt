@@ -1,33 +1,24 @@
 -- The cases. Assumes nothing.
 use Prim.Native.Nat.{ℕ, suc, _≤_}
-use mathlib.Core.Path.{_≡_, refl, sym, ap, subst, _∙_}
+use mathlib.Core.Path.{_≡_, refl, ap, _∙_}
 use mathlib.Core.Bool.{false}
-use mathlib.Core.List.{List, [], _∷_}
+use mathlib.Core.List.{List, []}
 use native.Mathlib.Omega.{arith}
-use borrow.Author.Tests.{eq-eqb, le-ltb, lt-ltb}
+use borrow.Author.Tests.{le-ltb, lt-ltb}
 use lib.ListN.{length}
-use Rattle.field.specs.Bits.{byteAt}
-use Rattle.field.specs.Handed.{Handed, handed}
+use Rattle.field.specs.Handed.{Handed}
 use Rattle.connection.specs.Channel.{validChannel}
 use Rattle.storage.specs.Alloc.{parseAlloc}
 use Rattle.event_data.specs.EventData.{byKind, eventDataOf}
 use Rattle.event_data.specs.declared.EventData.{EventData}
-use Rattle.event_data.specs.declared.EventData2Type.{EventData2Type}
-use Rattle.event_data.specs.declared.EventData3Type.{EventData3Type}
-use Rattle.ids.specs.Ids.{recordId}
 use Rattle.sel.specs.Entry.{parseEntry, systemRecord}
 use Rattle.sel_commands.specs.Clear.{parseClear}
 use Rattle.sel_commands.specs.Info.{infoAt, parseInfo}
 use Rattle.sel_commands.specs.Reserve.{parseReserve}
-use Rattle.sel_commands.specs.declared.clear.ClearAnswer.{ClearAnswer}
-use Rattle.sel_commands.specs.declared.clear.ErasureProgress.{ErasureProgress}
-use Rattle.sel_commands.specs.declared.get_info.InfoAnswer.{InfoAnswer}
 use Rattle.capture.specs.Length.{badLength}
-use Rattle.capture.specs.Slots.{askedOf, count, firstFrom, firstSlot, nextOf}
+use Rattle.capture.specs.Slots.{count, firstFrom, firstSlot}
 use Rattle.capture.specs.Walk.{chain, foundAt, judge, listed, numbers, onward, tested, verdict, walkOf}
-use Rattle.capture.specs.Walked.{Walked}
 use Rattle.capture.specs.declared.Found.{Found}
-use Rattle.capture.specs.declared.Verdict.{Verdict}
 use Rattle.claims.specs.Cases.{Cases, OneSlot, TwoSlots}
 
 -- a capture that is good, with places enough, is walked

@@ -1,10 +1,17 @@
-// Numbers of refusals (docs/SCOPE.md, "Numbers handed back") that more than one function gives: specs/Handed.antt has those that this crate names.
+// The numbers of refusals that functions give by number (docs/SCOPE.md, "Numbers handed back"); specs/Handed.antt has the table.
 pub const TOO_SHORT: u32 = 1;
 
 pub const UNKNOWN_TYPE: u32 = 2;
 
 pub const INVALID_CHANNEL: u32 = 3;
 
+pub const NO_ROOM: u32 = 4;
+
+pub const BAD_CAPTURE: u32 = 5;
+
 pub const TOO_LONG: u32 = 8;
 
 pub const NO_RESERVATION: u32 = 9;
+
+// No number of the table: the bytes are no question of the kind that was asked.
+pub const NO_QUESTION: u32 = 255;

@@ -15,11 +15,9 @@ use Rattle.answers.specs.RustAnswers.{Rust, asRust, err, ok, panics, rustAnswer
 use Rattle.answers.specs.declared.AnswerKind.{AnswerKind}
 use Rattle.answers.proofs.Ported.{ported-answers}
 use Rattle.answers.proofs.Rows.{answer-rows}
-use Rattle.flat_form.specs.Form.{refusal, taken}
+use Rattle.flat_form.specs.Form.{refusal}
 use Rattle.flat_form.specs.declared.SelAnswer.{SelAnswer}
-use Rattle.flat.specs.Kinds.{flatOf}
 use Rattle.flat.specs.Ported.{FlatPorted}
-use Rattle.flat.specs.Rows.{Asked}
 use Rattle.flat.proofs.Rows.{by-number, flat-rows, is-taken}
 
 -- what is said of a refusal is enough to map it

@@ -1,5 +1,7 @@
 // The flat form: one form of bytes for each decoded answer, what its writer answers, and the numbers in it, which are little-endian.
+use field::numbers::NO_QUESTION;
 use field::numbers::NO_RESERVATION;
+use field::numbers::NO_ROOM;
 use field::numbers::TOO_LONG;
 use field::numbers::TOO_SHORT;
 use text::Written;
@@ -8,9 +10,9 @@ ghost use Prim.Native.Nat.{_+_, _≤_};
 ghost use lib.ListN.{length};
 ghost use mathlib.Core.List.{[], _∷_};
 ghost use Rattle.field.specs.Bits.{leBytes};
-ghost use Rattle.field.specs.Handed.{handed, noReservation, ported, short, tooLong};
+ghost use Rattle.field.specs.Handed.{handed, noReservation, noRoom, ported, short, tooLong};
 ghost use Rattle.text.specs.Text.{Put};
-ghost use Rattle.flat_form.specs.Form.{Gives, fromWritten, refusal, said, taken};
+ghost use Rattle.flat_form.specs.Form.{Gives, fromWritten, refusal, said, taken, unasked};
 
 // What the writer of a flat form answers: the number, and what it carries: 0 the bytes written, 4 those needed, a refusal its value.
 #[repr(C)]
@@ -31,10 +33,10 @@ pub fn written(length: usize) -> SelAnswer
 
 // That many are needed; nothing was written.
 pub fn no_room(length: usize) -> SelAnswer
-    ensures { λ r. ⌜ r ≡ said 4 length ⌝ }
+    ensures { λ r. ⌜ r ≡ refusal (noRoom length) ⌝ }
 {
     SelAnswer {
-        number: 4,
+        number: NO_ROOM,
         value: length,
     }
 }
@@ -82,9 +84,9 @@ pub fn ported(number: u32, value: usize) -> SelAnswer
 
 // The bytes are no question of the kind that was asked.
 pub fn no_question() -> SelAnswer
-    ensures { λ r. ⌜ r ≡ said 255 0 ⌝ }
+    ensures { λ r. ⌜ r ≡ refusal unasked ⌝ }
 {
-    refused(255, 0)
+    refused(NO_QUESTION, 0)
 }
 
 // What a text's writer answered, as the answer of the flat form.

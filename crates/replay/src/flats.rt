@@ -3,11 +3,10 @@ use crate::say::say;
 use crate::say::say_bytes;
 use crate::say::say_refusal;
 use crate::say::up_to;
+use field::numbers::NO_QUESTION;
 
 // More than the longest flat form has, an event's text of 70 bytes.
 const ROOM: usize = 80;
-
-const NO_QUESTION: u32 = 255;
 
 pub(crate) fn ask(letter: u8, data: &[u8]) {
     let mut out = [0xEEu8; ROOM];

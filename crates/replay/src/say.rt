@@ -1,4 +1,8 @@
 // Parts of an answer's line, each written in one call.
+use field::numbers::INVALID_CHANNEL;
+use field::numbers::NO_ROOM;
+use field::numbers::TOO_SHORT;
+use field::numbers::UNKNOWN_TYPE;
 use libc::STDOUT_FILENO;
 
 pub(crate) fn say(s: &[u8]) {
@@ -42,17 +46,17 @@ pub(crate) fn say_bytes(s: &[u8]) {
     say(up_to(&digits, n));
 }
 
-// A refusal: 2 and 3 with a value of two digits; 1 and 4 with the length needed, in four; any other number alone.
+// A refusal: with the length needed, in four digits, or with a type or channel, in two; any other number alone.
 pub(crate) fn say_refusal(number: u32, value: usize) {
     let mut digits = [0u8; 10];
     let n = text::put_decimal(number, &mut digits, 0);
     say(up_to(&digits, n));
     match number {
-        1 | 4 => {
+        TOO_SHORT | NO_ROOM => {
             say(b" ");
             say_hex4((value % 65536) as u16);
         }
-        2 | 3 => {
+        UNKNOWN_TYPE | INVALID_CHANNEL => {
             say(b" ");
             say_hex((value % 256) as u8);
         }

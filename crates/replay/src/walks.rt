@@ -6,6 +6,8 @@ use crate::say::say_refusal;
 use capture::Verdict;
 use field::le16_at;
 use field::le32_at;
+use field::numbers::BAD_CAPTURE;
+use field::numbers::NO_ROOM;
 
 const MOST_PLACES: usize = 3001;
 
@@ -31,8 +33,8 @@ fn walk_into(slots: &[u8], budget: usize, list: &mut [u16]) {
         Verdict::Missing { ask, read } => say_walk(1, ask.value(), read, list),
         Verdict::Spent { ask, read } => say_walk(2, ask.value(), read, list),
         Verdict::Circle { read } => say_walk(3, 0, read, list),
-        Verdict::NoRoom(n) => say_refusal(4, n),
-        Verdict::BadCapture => say_refusal(5, 0),
+        Verdict::NoRoom(n) => say_refusal(NO_ROOM, n),
+        Verdict::BadCapture => say_refusal(BAD_CAPTURE, 0),
     }
 }
 

@@ -6,7 +6,7 @@ use mathlib.Core.List.{List, [], _∷_}
 use lib.Dec.{leb}
 use lib.ListN.{length}
 use Rattle.field.specs.Choose.{if_then_else_}
-use Rattle.field.specs.Handed.{Handed, handed}
+use Rattle.field.specs.Handed.{Handed, handed, noRoom}
 use Rattle.field.specs.Placed.{placed}
 use Rattle.text.specs.declared.Written.{Written}
 
@@ -25,10 +25,10 @@ after text out = if roomFor text out then placed out 0 text else out
 -- docs/SCOPE.md, "Numbers handed back": accepted, or 4 with the length needed
 abbrev pub numberOf : Written → Handed
 numberOf (Written.Length n) = handed 0 (n ∷ [])
-numberOf (Written.NoRoom n) = handed 4 (n ∷ [])
+numberOf (Written.NoRoom n) = noRoom n
 
 -- The promise of a writer: what it answers, the number of that, and what it leaves of the output `out`.
 pub record Wrote (text out : List ℕ) (r : Written) (left : List ℕ) : Type 0 where
   pub answered : r ≡ answer text out
-  pub numbered : numberOf r ≡ (if roomFor text out then handed 0 (length text ∷ []) else handed 4 (length text ∷ []))
+  pub numbered : numberOf r ≡ (if roomFor text out then handed 0 (length text ∷ []) else noRoom (length text))
   pub leaves : left ≡ after text out

@@ -1,10 +1,12 @@
-//! What ipmi-rs-core does not have: the walk along a captured log, the record's part of an answer, two records compared by their bytes, and
-//! what a length alone decides.
+//! What ipmi-rs-core does not have: the walk along a captured log, the record's part of an answer, two records compared by their bytes, why an
+//! answer is refused, and what a length alone decides.
 //!
 //! A capture is slots of [`SLOT`] bytes: the asked id, the next id that was answered, and the record. At most 3,000 slots are walked.
 
 use crate::ffi::{self, Answer};
-use crate::storage::sel::{ParseEntryError, RecordId};
+use crate::flat::Flat;
+use crate::storage::sel::RecordId;
+use crate::Refusal;
 
 /// The bytes of a slot.
 pub const SLOT: usize = 20;
@@ -68,19 +70,19 @@ pub fn record_bytes(answer: &[u8]) -> &[u8] {
 /// Which of two records is refused first, and why.
 #[derive(Debug, Clone, Copy, PartialEq)]
 pub enum RefusedRecord {
-    First(ParseEntryError),
-    Second(ParseEntryError),
+    First(Refusal),
+    Second(Refusal),
 }
 
 /// Whether two records have equal entries, told from their bytes: what `==` says of the entries that `Entry::parse` makes of them. The records may
 /// differ in what no field holds; the project's docs/SCOPE.md, "What equal entries overlook", lists it.
 pub fn same_entry(a: &[u8], b: &[u8]) -> Result<bool, RefusedRecord> {
     let answer = ffi::same_entry(a, b);
-    let why = Answer { number: answer.number, value: answer.value as usize };
+    let why = || Refusal::told(Answer { number: answer.number, value: answer.value as usize });
     match answer.refused {
         0 => Ok(answer.same == 1),
-        1 => Err(RefusedRecord::First(why.into())),
-        _ => Err(RefusedRecord::Second(why.into())),
+        1 => Err(RefusedRecord::First(why())),
+        _ => Err(RefusedRecord::Second(why())),
     }
 }
 
@@ -108,9 +110,16 @@ impl AnswerKind {
     }
 }
 
-/// Whether every answer of this kind and length is refused as too short (an info answer also as too long), before there is a byte of it.
-pub fn refused_length(kind: AnswerKind, length: usize) -> bool {
-    ffi::length(kind.letter(), length) != 0
+/// Why an answer, read as this kind, is refused; `None` where it is accepted. Finer than the error of the original's own functions, which is `From` it.
+pub fn refusal(kind: AnswerKind, answer: &[u8]) -> Option<Refusal> {
+    Flat::decode(kind.letter(), answer).err()
+}
+
+/// Why every answer of this kind and length is refused, before there is a byte of it: too short, with the length needed, or, an info answer, too long.
+/// `None` where an answer of that length may be read.
+pub fn refused_length(kind: AnswerKind, length: usize) -> Option<Refusal> {
+    let answer = ffi::length(kind.letter(), length);
+    (answer.number != 0).then(|| Refusal::told(answer))
 }
 
 /// How many bytes of an answer count: one whose length is not refused, cut to so many, is answered the same. At most 18.

@@ -48,7 +48,8 @@ mod library {
         pub fn sel_get_entry(data: *const u8, data_length: usize, out: *mut u8, out_length: usize) -> Answer;
         pub fn sel_allocation(data: *const u8, data_length: usize, out: *mut u8, out_length: usize) -> Answer;
         pub fn sel_decode(kind: u8, data: *const u8, data_length: usize, out: *mut u8, out_length: usize) -> Answer;
-        pub fn sel_length(kind: u8, len: usize) -> u32;
+        pub fn sel_length(kind: u8, len: usize) -> Answer;
+        pub fn sel_ported(number: u32, value: usize) -> Answer;
         pub fn sel_bytes_that_count(kind: u8) -> usize;
         pub fn sel_texts(
             store: *mut u8,
@@ -108,8 +109,12 @@ pub(crate) fn decode(kind: u8, data: &[u8], out: &mut [u8]) -> Answer {
     unsafe { library::sel_decode(kind, data.as_ptr(), data.len(), out.as_mut_ptr(), out.len()) }
 }
 
-pub(crate) fn length(kind: u8, len: usize) -> u32 {
+pub(crate) fn length(kind: u8, len: usize) -> Answer {
     unsafe { library::sel_length(kind, len) }
+}
+
+pub(crate) fn ported(number: u32, value: usize) -> Answer {
+    unsafe { library::sel_ported(number, value) }
 }
 
 pub(crate) fn bytes_that_count(kind: u8) -> usize {

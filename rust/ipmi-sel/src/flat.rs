@@ -1,6 +1,7 @@
 //! What the library decodes, in its flat form: the fields one after another, numbers of several bytes from the lowest up.
 
-use crate::ffi::{self, Answer};
+use crate::ffi;
+use crate::Refusal;
 
 /// The most bytes that a kind has: those of a get-entry answer.
 const MOST: usize = 24;
@@ -13,7 +14,7 @@ pub(crate) struct Flat {
 
 impl Flat {
     /// Of the bytes that are read as a kind, by its letter; the refusal where there is one.
-    pub(crate) fn decode(kind: u8, data: &[u8]) -> Result<Self, Answer> {
+    pub(crate) fn decode(kind: u8, data: &[u8]) -> Result<Self, Refusal> {
         let mut bytes = [0; MOST];
         // These three have functions of their own, which are the shorter way.
         let answer = match kind {
@@ -25,7 +26,7 @@ impl Flat {
         if answer.number == 0 {
             Ok(Self { bytes, taken: 0 })
         } else {
-            Err(answer)
+            Err(Refusal::told(answer))
         }
     }
 

@@ -1,7 +1,7 @@
 //! The System Event Log part of ipmi-rs-core's interface, over the library `libabi.a`, in which every function is proved to meet its
 //! contract. The library reads all bytes, and writes all texts and requests; here its flat answers become types.
 //!
-//! The names and signatures are those of ipmi-rs-core 0.6.0; [`capture`], [`Request`], [`storage::Timestamp::log_text`] and
+//! The names and signatures are those of ipmi-rs-core 0.6.0; [`capture`], [`Refusal`], [`Request`], [`storage::Timestamp::log_text`] and
 //! [`storage::sdr::TypedData`] are added. README.md says what differs.
 
 pub mod capture;
@@ -9,12 +9,14 @@ pub mod connection;
 mod ffi;
 mod flat;
 pub mod nonmax;
+mod refusal;
 mod request;
 #[cfg(feature = "ipmi-rs-core")]
 mod session;
 pub mod storage;
 mod text;
 
+pub use refusal::Refusal;
 pub use request::Request;
 
 // What the port does not have, so that one `use` line is enough.

@@ -6,7 +6,8 @@ use std::num::{NonZeroU16, NonZeroU8};
 
 use dice::Dice;
 use ipmi_sel::capture::{
-    bytes_that_count, find, record_bytes, refused_length, refused_slots, same_entry, walk, AnswerKind, RefusedRecord, Walk, WalkError, SLOT,
+    bytes_that_count, find, record_bytes, refusal, refused_length, refused_slots, same_entry, walk, AnswerKind, RefusedRecord, Walk,
+    WalkError, SLOT,
 };
 use ipmi_sel::connection::{Channel, ChannelNumber, LogicalUnit};
 use ipmi_sel::storage::sdr::{decode_event, EventData, SensorType, TypedData, TypedData2, TypedData3};
@@ -15,6 +16,7 @@ use ipmi_sel::storage::sel::{
     SelGetAllocInfo, SelInfo,
 };
 use ipmi_sel::storage::{AllocInfo, Timestamp};
+use ipmi_sel::Refusal;
 
 mod dice;
 
@@ -39,7 +41,7 @@ fn each_answer(mut test: impl FnMut(&[u8])) {
 
 /// The bytes that count, in a place of their own, are parsed as all of them are.
 fn check_cut<T: PartialEq + fmt::Debug>(kind: AnswerKind, bytes: &[u8], parse: impl Fn(&[u8]) -> T) {
-    if !refused_length(kind, bytes.len()) {
+    if refused_length(kind, bytes.len()).is_none() {
         let cut: Box<[u8]> = bytes[..bytes_that_count(kind)].into();
         assert_eq!(parse(&cut), parse(bytes));
     }
@@ -65,9 +67,17 @@ impl<F: Fn(&mut fmt::Formatter<'_>) -> fmt::Result> fmt::Display for Text<F> {
 fn entries() {
     each_answer(|bytes| {
         let entry = Entry::parse(bytes);
-        assert_eq!(entry == Err(ParseEntryError::NotEnoughData), refused_length(AnswerKind::Entry, bytes.len()));
+        assert_eq!(entry == Err(ParseEntryError::NotEnoughData), refused_length(AnswerKind::Entry, bytes.len()).is_some());
+        check_refusal(AnswerKind::Entry, bytes, entry.err());
         check_cut(AnswerKind::Entry, bytes, Entry::parse);
     });
+}
+
+/// The refusal by itself: that of the length, where the length is refused, and mapped back the original's error.
+fn check_refusal(kind: AnswerKind, bytes: &[u8], error: Option<ParseEntryError>) {
+    let (refused, by_length) = (refusal(kind, bytes), refused_length(kind, bytes.len()));
+    assert!(by_length.is_none() || refused == by_length);
+    assert_eq!(refused.map(ParseEntryError::from), error);
 }
 
 /// A record, and mostly the same with a bit or two changed: what is said of the two is what `==` says of their entries.
@@ -88,8 +98,8 @@ fn two_records() {
             }
         }
         let expected = match (Entry::parse(&record), Entry::parse(&other)) {
-            (Err(why), _) => Err(RefusedRecord::First(why)),
-            (Ok(_), Err(why)) => Err(RefusedRecord::Second(why)),
+            (Err(_), _) => Err(RefusedRecord::First(refusal(AnswerKind::Entry, &record).unwrap())),
+            (Ok(_), Err(_)) => Err(RefusedRecord::Second(refusal(AnswerKind::Entry, &other).unwrap())),
             (Ok(entry), Ok(other)) => Ok(entry == other),
         };
         assert_eq!(same_entry(&record, &other), expected, "{record:02X?} {other:02X?}");
@@ -112,8 +122,9 @@ fn texts_of_entries() {
 fn get_entries() {
     each_answer(|bytes| {
         let info = GetSelEntry::parse_success_response(bytes);
-        let refused = refused_length(AnswerKind::GetEntry, bytes.len());
+        let refused = refused_length(AnswerKind::GetEntry, bytes.len()).is_some();
         assert_eq!(info.as_ref().err() == Some(&ParseEntryError::NotEnoughData), refused);
+        check_refusal(AnswerKind::GetEntry, bytes, info.as_ref().err().copied());
         assert_eq!(record_bytes(bytes), if refused { &[] } else { &bytes[2..18] });
         assert_eq!(info.map(|info| info.entry).ok(), Entry::parse(record_bytes(bytes)).ok());
         check_cut(AnswerKind::GetEntry, bytes, GetSelEntry::parse_success_response);
@@ -124,8 +135,9 @@ fn get_entries() {
 #[test]
 fn infos() {
     each_answer(|bytes| {
-        let refused = refused_length(AnswerKind::Info, bytes.len());
+        let refused = refused_length(AnswerKind::Info, bytes.len()).is_some();
         assert_eq!(GetSelInfo::parse_success_response(bytes).is_err(), refused);
+        check_refusal(AnswerKind::Info, bytes, refused.then_some(ParseEntryError::NotEnoughData));
         assert!(SelInfo::from_data(bytes).map_or(0, |info| info.supported_cmds.len()) <= 4);
         check_cut(AnswerKind::Info, bytes, |bytes| format!("{:?}", SelInfo::from_data(bytes)));
     });
@@ -134,7 +146,8 @@ fn infos() {
 #[test]
 fn allocations() {
     each_answer(|bytes| {
-        let refused = refused_length(AnswerKind::Allocation, bytes.len());
+        let refused = refused_length(AnswerKind::Allocation, bytes.len()).is_some();
+        check_refusal(AnswerKind::Allocation, bytes, refused.then_some(ParseEntryError::NotEnoughData));
         assert_eq!(SelGetAllocInfo::parse_success_response(bytes).is_err(), refused);
         assert_eq!(SelAllocInfo::parse(bytes).is_none(), refused);
         assert_eq!(AllocInfo::parse(bytes).is_none(), refused);
@@ -146,8 +159,13 @@ fn allocations() {
 fn reservations_and_clearings() {
     each_answer(|bytes| {
         let reservation = ReserveSel::parse_success_response(bytes);
-        assert!(reservation.is_err() || !refused_length(AnswerKind::Reserve, bytes.len()));
-        assert_eq!(ClearSel::parse_success_response(bytes).is_err(), refused_length(AnswerKind::Clear, bytes.len()));
+        let (short, empty) = (bytes.len() < 2, bytes.is_empty());
+        let none = refusal(AnswerKind::Reserve, bytes) == Some(Refusal::NoReservation);
+        assert_eq!(none, !short && bytes[..2] == [0, 0]);
+        assert_eq!(reservation.is_err(), short || none);
+        assert_eq!(ClearSel::parse_success_response(bytes).is_err(), empty);
+        check_refusal(AnswerKind::Reserve, bytes, reservation.is_err().then_some(ParseEntryError::NotEnoughData));
+        check_refusal(AnswerKind::Clear, bytes, empty.then_some(ParseEntryError::NotEnoughData));
         check_cut(AnswerKind::Reserve, bytes, ReserveSel::parse_success_response);
         check_cut(AnswerKind::Clear, bytes, ClearSel::parse_success_response);
     });
@@ -218,9 +236,9 @@ fn lengths() {
     for _ in 0..CALLS {
         let length = usize::MAX >> dice.below(64);
         for kind in [Entry, GetEntry, Info, Allocation, Reserve, Clear] {
-            // The longest answer that is too short has 17 bytes.
-            assert!(refused_length(kind, length) == (kind == Info) || length < 18);
-            assert!(refused_length(kind, length) || length >= bytes_that_count(kind));
+            let needed = bytes_that_count(kind);
+            let too_long = (kind == Info && length > needed).then_some(Refusal::TooLong);
+            assert_eq!(refused_length(kind, length), if length < needed { Some(Refusal::TooShort { needed }) } else { too_long });
         }
         let slots = length / SLOT;
         assert_eq!(refused_slots(slots * SLOT), slots > 3000);

@@ -4,7 +4,8 @@ use std::fmt;
 use std::num::{NonZeroU16, NonZeroU8};
 
 use ipmi_sel::capture::{
-    bytes_that_count, find, record_bytes, refused_length, refused_slots, same_entry, walk, AnswerKind, RefusedRecord, Verdict, Walk, WalkError,
+    bytes_that_count, find, record_bytes, refusal, refused_length, refused_slots, same_entry, walk, AnswerKind, RefusedRecord, Verdict,
+    Walk, WalkError,
 };
 use ipmi_sel::connection::{Channel, ChannelNumber, LogicalUnit, NotEnoughData};
 use ipmi_sel::nonmax::NonMaxU8;
@@ -14,7 +15,7 @@ use ipmi_sel::storage::sel::{
     RecordId, ReserveSel, SelAllocInfo, SelCommand, SelGetAllocInfo,
 };
 use ipmi_sel::storage::{AllocInfo, Timestamp};
-use ipmi_sel::Request;
+use ipmi_sel::{Refusal, Request};
 
 /// The record of docs/SCOPE.md's example: id 1, time 1000, address 10h, sensor type 01h, event type 01h, offset 9.
 const RECORD: [u8; 16] = [0x01, 0x00, 0x02, 0xE8, 0x03, 0x00, 0x00, 0x20, 0x00, 0x04, 0x01, 0x30, 0x01, 0x59, 0x5A, 0x55];
@@ -112,11 +113,11 @@ fn what_equal_entries_overlook() {
 #[test]
 fn which_of_two_records_is_refused() {
     let (unknown, invalid) = (changed(RECORD, 2, 0x03), changed(RECORD, 8, 0xC0));
-    assert_eq!(same_entry(&unknown, &invalid), Err(RefusedRecord::First(ParseEntryError::UnknownRecordType(3))));
-    assert_eq!(same_entry(&invalid, &unknown), Err(RefusedRecord::First(ParseEntryError::InvalidChannel(12))));
-    assert_eq!(same_entry(&RECORD, &invalid), Err(RefusedRecord::Second(ParseEntryError::InvalidChannel(12))));
-    assert_eq!(same_entry(&RECORD[..15], &RECORD), Err(RefusedRecord::First(ParseEntryError::NotEnoughData)));
-    assert_eq!(same_entry(&RECORD, &[]), Err(RefusedRecord::Second(ParseEntryError::NotEnoughData)));
+    assert_eq!(same_entry(&unknown, &invalid), Err(RefusedRecord::First(Refusal::UnknownRecordType(3))));
+    assert_eq!(same_entry(&invalid, &unknown), Err(RefusedRecord::First(Refusal::InvalidChannel(12))));
+    assert_eq!(same_entry(&RECORD, &invalid), Err(RefusedRecord::Second(Refusal::InvalidChannel(12))));
+    assert_eq!(same_entry(&RECORD[..15], &RECORD), Err(RefusedRecord::First(Refusal::TooShort { needed: 16 })));
+    assert_eq!(same_entry(&RECORD, &[]), Err(RefusedRecord::Second(Refusal::TooShort { needed: 16 })));
 }
 
 #[test]
@@ -249,7 +250,8 @@ fn event_data() {
 #[test]
 fn event_data_by_type() {
     // The kinds 00, 01, 10 and 11 of byte 14, and of byte 15, by event type.
-    let (reading, previous, oem, specific) = (TypedData2::TriggerReading, TypedData2::PreviousState, TypedData2::OemCode, TypedData2::SensorSpecific);
+    let (reading, previous, oem, specific) =
+        (TypedData2::TriggerReading, TypedData2::PreviousState, TypedData2::OemCode, TypedData2::SensorSpecific);
     let (none, reserved) = (TypedData2::Unspecified, TypedData2::Reserved);
     let of_second = |v| {
         [
@@ -377,18 +379,44 @@ fn ids_channels_units() {
 #[test]
 fn lengths() {
     use AnswerKind::*;
-    for length in 0..300 {
-        let refused = [
-            (Entry, length < 16),
-            (GetEntry, length < 18),
-            (Info, length != 14),
-            (Allocation, length < 9),
-            (Reserve, length < 2),
-            (Clear, length == 0),
-        ];
-        for (kind, refused) in refused {
+    for length in (0..300).chain([usize::MAX, 1 << 32 | 14]) {
+        for (kind, needed) in [(Entry, 16), (GetEntry, 18), (Info, 14), (Allocation, 9), (Reserve, 2), (Clear, 1)] {
+            let refused = match length {
+                _ if length < needed => Some(Refusal::TooShort { needed }),
+                _ if kind == Info && length > needed => Some(Refusal::TooLong),
+                _ => None,
+            };
             assert_eq!(refused_length(kind, length), refused, "{kind:?} {length}");
         }
+    }
+}
+
+/// Each refusal with the original's error beside it.
+#[test]
+fn what_was_short() {
+    use AnswerKind::*;
+    let answer = [&[0xFF, 0xFF], &RECORD[..]].concat();
+    let short = |needed| Some(Refusal::TooShort { needed });
+    assert_eq!((refusal(Entry, &RECORD), refusal(Entry, &RECORD[..15]), refusal(Entry, &[])), (None, short(16), short(16)));
+    assert_eq!((refusal(GetEntry, &answer), refusal(GetEntry, &answer[..17]), refusal(GetEntry, &[0; 2])), (None, short(18), short(18)));
+    assert_eq!(refusal(GetEntry, &changed([0; 18], 4, 0x01)), Some(Refusal::UnknownRecordType(0x01)));
+    assert_eq!(refusal(Entry, &changed(RECORD, 8, 0xC0)), Some(Refusal::InvalidChannel(0xC)));
+    assert_eq!((refusal(Info, &[0; 14]), refusal(Info, &[0; 13]), refusal(Info, &[0; 15])), (None, short(14), Some(Refusal::TooLong)));
+    assert_eq!((refusal(Allocation, &[0; 9]), refusal(Allocation, &[0; 8])), (None, short(9)));
+    assert_eq!((refusal(Clear, &[0]), refusal(Clear, &[])), (None, short(1)));
+    // Length before reservation.
+    assert_eq!((refusal(Reserve, &[1, 0]), refusal(Reserve, &[0]), refusal(Reserve, &[])), (None, short(2), short(2)));
+    assert_eq!((refusal(Reserve, &[0, 0]), refusal(Reserve, &[0, 0, 1])), (Some(Refusal::NoReservation), Some(Refusal::NoReservation)));
+
+    let told = [
+        (Refusal::TooShort { needed: 18 }, 1, ParseEntryError::NotEnoughData, "too short, 18 bytes are needed"),
+        (Refusal::UnknownRecordType(0x0A), 2, ParseEntryError::UnknownRecordType(0x0A), "unknown record type 0Ah"),
+        (Refusal::InvalidChannel(0xC), 3, ParseEntryError::InvalidChannel(0xC), "invalid channel Ch"),
+        (Refusal::TooLong, 8, ParseEntryError::NotEnoughData, "too long"),
+        (Refusal::NoReservation, 9, ParseEntryError::NotEnoughData, "a reservation of 0"),
+    ];
+    for (refusal, number, original, text) in told {
+        assert_eq!((refusal.number(), ParseEntryError::from(refusal), refusal.to_string()), (number, original, text.to_string()));
     }
 }
 

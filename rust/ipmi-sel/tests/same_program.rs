@@ -132,9 +132,28 @@ fn expected_allocation(bytes: &[u8]) -> String {
 
 const PANICS: usize = 8;
 
+/// The finer refusals: each where the original errs and nowhere else, and mapped back its error. Of an allocation answer of 8 bytes the original has none.
+fn compare_refusals(bytes: &[u8]) -> usize {
+    use ipmi_rs_core::storage::sel as original;
+    use ipmi_sel::capture::{refusal, AnswerKind::*};
+    let mapped = |kind| refusal(kind, bytes).map(|why| format!("{:?}", ipmi_sel::storage::sel::ParseEntryError::from(why)));
+    fn error<T, E: std::fmt::Debug>(said: Result<T, E>) -> Option<String> {
+        said.err().map(|why| format!("{why:?}"))
+    }
+    assert_eq!(mapped(Entry), error(original::Entry::parse(bytes)), "{bytes:02X?}");
+    assert_eq!(mapped(GetEntry), error(original::GetSelEntry::parse_success_response(bytes)), "{bytes:02X?}");
+    assert_eq!(mapped(Info), error(original::GetSelInfo::parse_success_response(bytes)), "{bytes:02X?}");
+    assert_eq!(mapped(Reserve), error(original::ReserveSel::parse_success_response(bytes)), "{bytes:02X?}");
+    assert_eq!(mapped(Clear), error(original::ClearSel::parse_success_response(bytes)), "{bytes:02X?}");
+    if bytes.len() != PANICS {
+        assert_eq!(mapped(Allocation), error(original::SelGetAllocInfo::parse_success_response(bytes)), "{bytes:02X?}");
+    }
+    [Entry, GetEntry, Info, Reserve, Clear, Allocation].into_iter().filter(|kind| refusal(*kind, bytes).is_some()).count()
+}
+
 #[test]
 fn answers() {
-    let (mut compared, mut panics) = (0, 0);
+    let (mut compared, mut panics, mut refused) = (0, 0, 0);
     for bytes in questions() {
         let (mut expected, mut said) = (String::new(), String::new());
         original::answers(&bytes, &mut expected);
@@ -142,11 +161,12 @@ fn answers() {
         ours::answers(&bytes, &mut said);
         ours::allocation(&bytes, &mut said);
         assert_eq!(expected, said, "{bytes:02X?}");
+        refused += compare_refusals(&bytes);
         compared += 1;
         panics += usize::from(bytes.len() == PANICS);
     }
-    println!("{compared} answers; as allocations {panics} of them panic in the original");
-    assert!(compared > 40_000 && panics > 0);
+    println!("{compared} answers, {refused} refusals of them; as allocations {panics} of them panic in the original");
+    assert!(compared > 40_000 && panics > 0 && refused > 40_000);
 }
 
 /// Of the pairs that `replay` is asked about, and of each of these records beside the one before it.

@@ -42,7 +42,7 @@ impl ClearSel {
     }
 
     pub fn parse_success_response(data: &[u8]) -> Result<ErasureProgress, NotEnoughData> {
-        let mut flat = Flat::decode(b'c', data).map_err(|_| NotEnoughData)?;
+        let mut flat = Flat::decode(b'c', data)?;
         Ok(if flat.yes() { ErasureProgress::Completed } else { ErasureProgress::InProgress })
     }
 }

@@ -5,7 +5,6 @@ use std::fmt;
 use super::sdr::{decode_event, EventData, SensorType};
 use super::Timestamp;
 use crate::connection::{Channel, LogicalUnit};
-use crate::ffi::Answer;
 use crate::flat::Flat;
 
 mod clear;
@@ -180,16 +179,6 @@ pub enum ParseEntryError {
     NotEnoughData,
     UnknownRecordType(u8),
     InvalidChannel(u8),
-}
-
-impl From<Answer> for ParseEntryError {
-    fn from(answer: Answer) -> Self {
-        match answer.number {
-            2 => Self::UnknownRecordType(answer.value as u8),
-            3 => Self::InvalidChannel(answer.value as u8),
-            _ => Self::NotEnoughData,
-        }
-    }
 }
 
 impl Entry {

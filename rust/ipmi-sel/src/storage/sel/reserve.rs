@@ -14,9 +14,9 @@ impl ReserveSel {
         Request::new(0x42, None, 0)
     }
 
-    /// A reservation of 0 is refused.
+    /// A reservation of 0 is refused; [`refusal`](crate::capture::refusal) tells it from a short answer.
     pub fn parse_success_response(data: &[u8]) -> Result<NonZeroU16, NotEnoughData> {
-        let mut flat = Flat::decode(b'r', data).map_err(|_| NotEnoughData)?;
+        let mut flat = Flat::decode(b'r', data)?;
         NonZeroU16::new(flat.u16()).ok_or(NotEnoughData)
     }
 }

@@ -133,9 +133,12 @@ fn others(records: &[Vec<u8>]) -> Vec<Row> {
     let event_data = |data: &[u8]| kinds::event_data(*fixed(data));
     vec![
         row("info", cut(records, 2..), original::info, ours::decode_info, (kinds::info, answers::decode_info)),
+        row("info refused, 13 bytes", cut(records, 3..), original::info, ours::decode_info, (kinds::info, answers::decode_info)),
+        row("info refused, 15 bytes", cut(records, 1..), original::info, ours::decode_info, (kinds::info, answers::decode_info)),
         row("allocation", allocations.clone(), original::allocation, ours::allocation, (kinds::allocation, answers::allocation)),
         row("allocation, by sel_decode", allocations, original::allocation, ours::decode_allocation, (kinds::allocation, answers::decode_allocation)),
         row("reserve", cut(records, 3..5), original::reserve, ours::decode_reserve, (kinds::reserve, answers::decode_reserve)),
+        row("reserve refused, 0", vec![vec![0, 0]], original::reserve, ours::decode_reserve, (kinds::reserve, answers::decode_reserve)),
         row("clear", cut(records, 3..4), original::clear, ours::decode_clear, (kinds::clear, answers::decode_clear)),
         row("event data", cut(records, 13..), original::event_data, ours::decode_event_data, (event_data, answers::decode_event_data)),
         of_ours("event data by type".into(), cut(records, 12..), 0, ours::typed_data, (typed_answer, answers::typed_data)),
@@ -243,30 +246,36 @@ fn searches() -> Vec<Row> {
 }
 
 /// By SCOPE's numbers: the least length, and for an info the only one.
-fn length_answer(question: &[u8]) -> String {
-    let length = question[1];
-    let enough = match question[0] {
-        b'e' => length >= 16,
-        b'g' => length >= 18,
-        b'i' => length == 14,
-        b'a' => length >= 9,
-        b'r' => length >= 2,
-        _ => length >= 1,
-    };
-    u8::from(!enough).to_string()
-}
-
-/// By include/sel.h's numbers.
-fn count_answer(question: &[u8]) -> String {
-    let bytes = match question[0] {
+fn needed(kind: u8) -> u8 {
+    match kind {
         b'e' => 16,
         b'g' => 18,
         b'i' => 14,
         b'a' => 9,
         b'r' => 2,
         _ => 1,
-    };
-    bytes.to_string()
+    }
+}
+
+fn length_answer(question: &[u8]) -> String {
+    let (kind, length) = (question[0], question[1]);
+    match needed(kind) {
+        needed if length < needed => format!("1 {needed}"),
+        needed if kind == b'i' && length > needed => "8 0".into(),
+        _ => "0 0".into(),
+    }
+}
+
+fn count_answer(question: &[u8]) -> String {
+    needed(question[0]).to_string()
+}
+
+/// By SCOPE: 1, 8 and 9 are one number in the Rust.
+fn ported_answer(question: &[u8]) -> String {
+    match (question[0], question[1]) {
+        (1 | 8 | 9, _) => "1 0".into(),
+        (number, value) => format!("{number} {value}"),
+    }
 }
 
 fn slots_answer(question: &[u8]) -> String {
@@ -277,10 +286,12 @@ fn slots_answer(question: &[u8]) -> String {
 fn lengths() -> Vec<Row> {
     let kinds = b"egiarc".iter();
     let questions = kinds.clone().flat_map(|kind| (0..20).map(|length| vec![*kind, length, 0])).collect();
+    let refusals = vec![vec![1, 16], vec![2, 0xBF], vec![3, 12], vec![8, 0], vec![9, 0]];
     // Every other one is a multiple of 20, and the last are too long.
     let captures = (0..256u16).map(|k| (k * 250).to_le_bytes().to_vec()).collect();
     vec![
         of_ours("length".into(), questions, 0, ours::length, (length_answer, answers::length)),
+        of_ours("refusal mapped back".into(), refusals, 0, ours::ported, (ported_answer, answers::ported)),
         of_ours("bytes that count".into(), kinds.map(|kind| vec![*kind]).collect(), 0, ours::bytes_that_count, (count_answer, answers::bytes_that_count)),
         of_ours("length of a capture".into(), captures, 0, ours::slots_length, (slots_answer, answers::slots_length)),
     ]

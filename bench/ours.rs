@@ -52,7 +52,8 @@ extern "C" {
     fn sel_get_entry(data: *const u8, data_length: usize, out: *mut u8, out_length: usize) -> Answer;
     fn sel_allocation(data: *const u8, data_length: usize, out: *mut u8, out_length: usize) -> Answer;
     fn sel_decode(kind: u8, data: *const u8, data_length: usize, out: *mut u8, out_length: usize) -> Answer;
-    fn sel_length(kind: u8, len: usize) -> u32;
+    fn sel_length(kind: u8, len: usize) -> Answer;
+    fn sel_ported(number: u32, value: usize) -> Answer;
     fn sel_bytes_that_count(kind: u8) -> usize;
     fn sel_event_text(event_type: u8, sensor_type: u8, offset: u8, out: *mut u8, out_length: usize) -> Answer;
     fn sel_texts(store: *mut u8, store_length: usize, starts: *mut u16, starts_length: usize, lengths: *mut u8, lengths_length: usize) -> Answer;
@@ -162,9 +163,13 @@ calls! {
         let [_, low, high, id_low, id_high] = *fixed(question);
         request(0x43, word(low, high), word(id_low, id_high), room)
     };
-    length, number: |question, room| {
+    length, told: |question, room| {
         let [kind, low, high] = *fixed(question);
         sel_length(kind, word(low, high) as usize)
+    };
+    ported, told: |question, room| {
+        let [number, value] = *fixed(question);
+        sel_ported(number.into(), value.into())
     };
     bytes_that_count, number: |question, room| {
         let [kind] = *fixed(question);
@@ -180,12 +185,14 @@ calls! {
     walk, verdict: |slots, room| sel_walk(slots.as_ptr(), slots.len(), slots.len() / 20 + 1, room.list.as_mut_ptr(), room.list.len());
 }
 
+/// A refusal is mapped back to the Rust's by the library's own mapping.
 fn refused_or(answer: Answer, room: &Room, shown: impl Fn(&[u8]) -> String) -> String {
-    match answer.number {
-        0 if answer.value == 0 => "0".into(),
-        0 => format!("0 {}", shown(&room.out[..answer.value])),
-        1 => "1".into(),
-        number => format!("{number} {:02X}", answer.value),
+    if answer.number == 0 {
+        return if answer.value == 0 { "0".into() } else { format!("0 {}", shown(&room.out[..answer.value])) };
+    }
+    match unsafe { sel_ported(answer.number, answer.value) } {
+        Answer { number: 1, .. } => "1".into(),
+        Answer { number, value } => format!("{number} {value:02X}"),
     }
 }
 
@@ -199,6 +206,10 @@ fn text(answer: Answer, room: &Room) -> String {
 
 fn number(answer: impl ToString, _: &Room) -> String {
     answer.to_string()
+}
+
+fn told(answer: Answer, _: &Room) -> String {
+    format!("{} {}", answer.number, answer.value)
 }
 
 fn numbers(answer: TypedData, _: &Room) -> String {

@@ -1,5 +1,6 @@
 -- The claims hold. Assumes nothing.
 use mathlib.Core.Path.{ap, _∙_}
+use Rattle.field.proofs.MappedBack.{mapped-back}
 use Rattle.connection.specs.Channel.{validChannel}
 use Rattle.storage.proofs.LogTimes.{log-times}
 use Rattle.typed_data.proofs.Readings.{readings}
@@ -55,4 +56,5 @@ claims =
       printedData = printed-data;
       whatWasShort = what-was-short validChannel;
       lengthsNeeded = lengths-needed;
+      mappedBack = mapped-back;
     }

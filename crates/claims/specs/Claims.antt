@@ -3,6 +3,8 @@
 -- clock was set, event data by event type, and what was short. Assumes nothing.
 use Prim.Native.Nat.{ℕ}
 use mathlib.Core.List.{List}
+use Rattle.field.specs.Handed.{Handed}
+use Rattle.field.specs.MappedBack.{MappedBack}
 use Rattle.connection.specs.Channel.{validChannel}
 use Rattle.storage.specs.LogTimes.{LogTimes}
 use Rattle.typed_data.specs.Readings.{Readings}
@@ -36,3 +38,5 @@ pub record Claims : Type 0 where
   -- what a refusal of an answer says, and the length that each kind needs
   pub whatWasShort : (kind : AnswerKind) (s : List ℕ) → WhatWasShort validChannel kind s
   pub lengthsNeeded : LengthsNeeded
+  -- and the mapping back to the numbers of the Rust, by which demand 2 holds
+  pub mappedBack : (h : Handed) → MappedBack h

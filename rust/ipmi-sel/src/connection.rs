@@ -10,7 +10,7 @@ pub use ipmi_rs_core::connection::{
     Address, CompletionErrorCode, IpmiCommand, IpmiConnection, Message, NetFn, NotEnoughData, Request, RequestTargetAddress, Response,
 };
 
-/// An answer is too short, or not of its one length, or has a reservation of 0.
+/// An answer is too short, or not of its one length, or has a reservation of 0: [`refusal`](crate::capture::refusal) tells which.
 #[cfg(not(feature = "ipmi-rs-core"))]
 #[derive(Debug, Clone, Copy, PartialEq)]
 pub struct NotEnoughData;

@@ -37,7 +37,7 @@ use Rattle.capture.specs.Walked.{Walked, numberOf as walkNumber}
 use Rattle.capture.specs.declared.Verdict.{Verdict}
 use Rattle.capture.proofs.Refusals.{refusals}
 use Rattle.capture.proofs.SlotsLength.{slots-length}
-use Rattle.flat_form.specs.Form.{Flat, Gives, decided, noQuestion, refused, taken}
+use Rattle.flat_form.specs.Form.{Flat, Gives, decided, noQuestion, refusal, refused, taken}
 use Rattle.flat_form.specs.declared.SelAnswer.{SelAnswer}
 use Rattle.flat_form.proofs.Laws.{Told, gives-is, short, told, turned, wrote}
 use Rattle.flat_form.proofs.Untouched.{untouched-else}
@@ -52,7 +52,7 @@ use Rattle.flat.specs.Texts.{entryTextFlat, eventDataTextFlat, eventTextFlat, l
 use Rattle.flat.specs.declared.Kind.{Kind}
 use Rattle.flat.specs.declared.Question.{Question}
 use Rattle.flat.proofs.Counts.{flat-counts}
-use Rattle.flat.proofs.Rows.{exactly, flat-rows, too-long, decides as decides-flat}
+use Rattle.flat.proofs.Rows.{exactly, flat-rows, too-long, decides as decides-flat, turned as turned-away}
 use Rattle.slot_line.specs.Input.{judgeInput, slotsOf}
 use Rattle.slot_line.specs.declared.Judged.{Judged}
 use Rattle.log.specs.Closing.{numberOf as logNumber}
@@ -191,6 +191,11 @@ flat-room letter s out left r g = (
   λ p. ap (λ (x : SelAnswer). x .number) (too-long (p .0) (gives-is (p .1) g) (p .2)),
 )
 
+flat-text-refused : (letter : ℕ) → kindOf letter ≡ Kind.Other Question.EntryText → (s out left : List ℕ) (r : SelAnswer) → Gives (flatOf letter s) out r left
+    → (h : Handed) → Row validChannel AnswerKind.Entry s h → (h .number ≡ 0 → ⊥) → r ≡ refusal h
+unfolding entryTextFlat
+flat-text-refused letter k s out left r g = turned-away (answer-rows validChannel AnswerKind.Entry s .rows) _ (gives-is (ap (λ (x : Kind). flatBy x s) k) g)
+
 flat-text : (letter : ℕ) → kindOf letter ≡ Kind.Other Question.EntryText → (s out left : List ℕ) (r : SelAnswer) → Gives (flatOf letter s) out r left
     → (n : ℕ) → (n ≡ 0 → ⊥) → (n ≡ 4 → ⊥) → (r .number ≡ n) ↔ ((h : Handed) × Row validChannel AnswerKind.Entry s h × (h .number ≡ n))
 unfolding entryTextFlat
@@ -226,6 +231,7 @@ demand-1 =
       decided = decided-by;
       channels = channels;
       flat = flat-rows;
+      flatTextRefused = flat-text-refused;
       flatText = flat-text;
       written = room;
       flatFour = flat-room;

@@ -23,7 +23,7 @@ use Rattle.capture.specs.Refusals.{Refusals}
 use Rattle.capture.specs.SlotsLength.{SlotsLength}
 use Rattle.capture.specs.Walked.{Walked, numberOf as walkNumber}
 use Rattle.capture.specs.declared.Verdict.{Verdict}
-use Rattle.flat_form.specs.Form.{Flat, Gives, said, taken}
+use Rattle.flat_form.specs.Form.{Flat, Gives, refusal, said, taken}
 use Rattle.flat_form.specs.declared.SelAnswer.{SelAnswer}
 use Rattle.flat.specs.Counts.{FlatCounts}
 use Rattle.flat.specs.Kinds.{flatOf}
@@ -72,7 +72,10 @@ pub record Demand1 : Type 0 where
   pub channels : (n : ℕ) → (validChannel n ≡ true) ↔ Valid n
   -- the same of `flat`, which reads any bytes as the kind that any letter names
   pub flat : (letter : ℕ) (kind : AnswerKind) (s out left : List ℕ) (r : SelAnswer) → FlatRows letter kind s out left r
-  -- where it is asked for the text of a record's event, it refuses as the record is refused
+  -- where it is asked for the text of a record's event, it refuses as the record is refused, by that number and with what it carries
+  pub flatTextRefused : (letter : ℕ) → kindOf letter ≡ Kind.Other Question.EntryText → (s out left : List ℕ) (r : SelAnswer) → Gives (flatOf letter s) out r left
+      → (h : Handed) → Row validChannel AnswerKind.Entry s h → (h .number ≡ 0 → ⊥) → r ≡ refusal h
+  -- and by no number without its row
   pub flatText : (letter : ℕ) → kindOf letter ≡ Kind.Other Question.EntryText → (s out left : List ℕ) (r : SelAnswer) → Gives (flatOf letter s) out r left
       → (n : ℕ) → (n ≡ 0 → ⊥) → (n ≡ 4 → ⊥) → (r .number ≡ n) ↔ ((h : Handed) × Row validChannel AnswerKind.Entry s h × (h .number ≡ n))
   -- row 4: whoever writes a text or a request gives it exactly if the output is shorter, with the length needed

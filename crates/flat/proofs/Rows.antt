@@ -63,7 +63,7 @@ module _ {out left : List ℕ} {r : SelAnswer} (flat : List ℕ) (g : Gives (tak
 
 -- what is decided by a number, of which the rows are known
 module _ {hands : Handed} {Row : Handed → Type 0} (rows : Rows hands Row) (flat : List ℕ) {out left : List ℕ} {r : SelAnswer} (g : Gives (decided hands flat) out r left) where
-  turned : (h : Handed) → Row h → (h .number ≡ 0 → ⊥) → r ≡ refusal h
+  pub turned : (h : Handed) → Row h → (h .number ≡ 0 → ⊥) → r ≡ refusal h
   turned h p n = gives-is (ap (λ (x : Handed). decided x flat) (rows .exactly h .1 p) ∙ is-refused h flat n) g .answered
 
   number : (n : ℕ) → (n ≡ 0 → ⊥) → (n ≡ 4 → ⊥) → r .number ≡ n → Dec (hands .number ≡ 0) → hands .number ≡ n

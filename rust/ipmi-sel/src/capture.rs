@@ -112,7 +112,7 @@ impl AnswerKind {
 
 /// Why an answer, read as this kind, is refused; `None` where it is accepted. Finer than the error of the original's own functions, which is `From` it.
 pub fn refusal(kind: AnswerKind, answer: &[u8]) -> Option<Refusal> {
-    Flat::decode(kind.letter(), answer).err()
+    Flat::decode(kind.letter(), answer).err().map(Refusal::told)
 }
 
 /// Why every answer of this kind and length is refused, before there is a byte of it: too short, with the length needed, or, an info answer, too long.

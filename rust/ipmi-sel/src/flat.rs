@@ -1,7 +1,6 @@
 //! What the library decodes, in its flat form: the fields one after another, numbers of several bytes from the lowest up.
 
-use crate::ffi;
-use crate::Refusal;
+use crate::ffi::{self, Answer};
 
 /// The most bytes that a kind has: those of a get-entry answer.
 const MOST: usize = 24;
@@ -14,7 +13,7 @@ pub(crate) struct Flat {
 
 impl Flat {
     /// Of the bytes that are read as a kind, by its letter; the refusal where there is one.
-    pub(crate) fn decode(kind: u8, data: &[u8]) -> Result<Self, Refusal> {
+    pub(crate) fn decode(kind: u8, data: &[u8]) -> Result<Self, Answer> {
         let mut bytes = [0; MOST];
         // These three have functions of their own, which are the shorter way.
         let answer = match kind {
@@ -26,7 +25,7 @@ impl Flat {
         if answer.number == 0 {
             Ok(Self { bytes, taken: 0 })
         } else {
-            Err(Refusal::told(answer))
+            Err(answer)
         }
     }
 

@@ -72,10 +72,10 @@ impl fmt::Display for Refusal {
 
 impl Error for Refusal {}
 
-impl From<Refusal> for ParseEntryError {
-    fn from(refusal: Refusal) -> Self {
-        let Answer { number, value } = refusal.answer();
-        match Refusal::told(ffi::ported(number, value)) {
+impl From<Answer> for ParseEntryError {
+    #[cold]
+    fn from(refused: Answer) -> Self {
+        match Refusal::told(ffi::ported(refused.number, refused.value)) {
             Refusal::UnknownRecordType(record_type) => Self::UnknownRecordType(record_type),
             Refusal::InvalidChannel(channel) => Self::InvalidChannel(channel),
             _ => Self::NotEnoughData,
@@ -83,10 +83,18 @@ impl From<Refusal> for ParseEntryError {
     }
 }
 
-/// Of an answer that holds no record.
-impl From<Refusal> for NotEnoughData {
+impl From<Refusal> for ParseEntryError {
     fn from(refusal: Refusal) -> Self {
-        debug_assert_eq!(ParseEntryError::from(refusal), ParseEntryError::NotEnoughData);
+        refusal.answer().into()
+    }
+}
+
+/// Of an answer that holds no record, which no other error refuses.
+impl From<Answer> for NotEnoughData {
+    #[cold]
+    fn from(refused: Answer) -> Self {
+        let error = ParseEntryError::from(refused);
+        debug_assert_eq!(error, ParseEntryError::NotEnoughData);
         NotEnoughData
     }
 }

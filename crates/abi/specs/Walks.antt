@@ -3,6 +3,7 @@ use Prim.Native.Nat.{ℕ}
 use mathlib.Core.Path.{_≡_}
 use mathlib.Core.List.{List}
 use lib.ListN.{length}
+use Rattle.field.specs.Handed.{badCapture, noRoom}
 use Rattle.capture.specs.Walk.{listAfter, walkOf}
 use Rattle.capture.specs.declared.Found.{Found}
 use Rattle.capture.specs.declared.Verdict.{Verdict}
@@ -25,8 +26,8 @@ walkAnswer (Verdict.Ended read) = walked 0 0 0 read 0
 walkAnswer (Verdict.Missing ask read) = walked 0 1 (ask .0) read 0
 walkAnswer (Verdict.Spent ask read) = walked 0 2 (ask .0) read 0
 walkAnswer (Verdict.Circle read) = walked 0 3 0 read 0
-walkAnswer (Verdict.NoRoom n) = walked 4 0 0 0 n
-walkAnswer Verdict.BadCapture = walked 5 0 0 0 0
+walkAnswer (Verdict.NoRoom n) = walked (noRoom n .number) 0 0 0 n
+walkAnswer Verdict.BadCapture = walked (badCapture .number) 0 0 0 0
 
 -- The promise of the walk: what it answers, and what it leaves of the lent list.
 pub record Walks (s : List ℕ) (b : ℕ) (old : List ℕ) (r : SelWalk) (left : List ℕ) : Type 0 where

@@ -1,3 +1,5 @@
 pub mod Back
 pub mod Channel
 pub mod Unit
+pub mod Version
+pub mod Versions

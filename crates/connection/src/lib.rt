@@ -1,8 +1,56 @@
 // Channels and logical units. After src/connection/mod.rs of ipmi-rs-core 0.6.0, changed: docs/SCOPE.md has the rules.
 ghost use mathlib.Core.Path.{_≡_};
 ghost use Rattle.field.specs.Handed.{Answers};
-ghost use Rattle.connection.specs.Channel.{channelHands, channelNumber, channelOf, numberOf, validChannel};
+ghost use Rattle.connection.specs.Channel.{channelAt, channelHands, channelNumber, channelOf, numberOf, validChannel};
 ghost use Rattle.connection.specs.Unit.{unitNamed, unitNumber, unitOf};
+ghost use Rattle.connection.specs.Version.{lastNumbered, validIn, versionOf};
+
+// The versions of the standard that are told apart: they differ in the valid channels.
+pub enum Version {
+    V1_5,
+    V2_0,
+}
+
+// What `Version::from_byte` answers.
+pub enum NewVersion {
+    Named(Version),
+    Unnamed,
+}
+
+impl Version {
+    // By the number that Get Device ID gives it. That of Get SEL Info is another: it is 51h under 2.0 too.
+    pub fn from_byte(value: u8) -> NewVersion
+        ensures { λ r. ⌜ r ≡ versionOf value ⌝ }
+    {
+        match value {
+            0x51 => NewVersion::Named(Version::V1_5),
+            0x02 => NewVersion::Named(Version::V2_0),
+            _ => NewVersion::Unnamed,
+        }
+    }
+
+    // Whether a number names a channel under the version: the one test of it.
+    pub fn has(self, value: u8) -> bool
+        ensures { λ r. ⌜ r ≡ validIn self value ⌝ }
+    {
+        if value <= self.last_numbered() {
+            return true;
+        }
+        if value == 0xE {
+            return true;
+        }
+        value == 0xF
+    }
+
+    fn last_numbered(self) -> u8
+        ensures { λ r. ⌜ r ≡ lastNumbered self ⌝ }
+    {
+        match self {
+            Version::V1_5 => 0x7,
+            Version::V2_0 => 0xB,
+        }
+    }
+}
 
 // The number of a numbered channel, 1h to Bh.
 pub struct ChannelNumber(u8);
@@ -21,31 +69,38 @@ pub enum NewChannel {
     Invalid(u8),
 }
 
-// Whether a number names a channel: the one test of it.
+// Whether a number names a channel of 2.0.
 pub fn is_channel(value: u8) -> bool
     ensures { λ r. ⌜ r ≡ validChannel value ⌝ }
 {
-    if value <= 0xB {
-        return true;
-    }
-    if value == 0xE {
-        return true;
-    }
-    value == 0xF
+    Version::V2_0.has(value)
 }
 
 impl Channel {
     pub fn new(value: u8) -> NewChannel
         ensures { λ r. ⌜ Answers r (channelOf validChannel value) numberOf (channelHands validChannel value) ⌝ }
     {
-        if !is_channel(value) {
-            return NewChannel::Invalid(value);
+        Channel::new_in(Version::V2_0, value)
+    }
+
+    pub fn new_in(version: Version, value: u8) -> NewChannel
+        ensures { λ r. ⌜ Answers r (channelOf (validIn version) value) numberOf (channelHands (validIn version) value) ⌝ }
+    {
+        if version.has(value) {
+            return NewChannel::Valid(Channel::named(value));
         }
+        NewChannel::Invalid(value)
+    }
+
+    // The channel that a valid number names.
+    fn named(value: u8) -> Channel
+        ensures { λ r. ⌜ r ≡ channelAt value ⌝ }
+    {
         match value {
-            0 => NewChannel::Valid(Channel::Primary),
-            0xE => NewChannel::Valid(Channel::Current),
-            0xF => NewChannel::Valid(Channel::System),
-            _ => NewChannel::Valid(Channel::Numbered(ChannelNumber(value))),
+            0 => Channel::Primary,
+            0xE => Channel::Current,
+            0xF => Channel::System,
+            _ => Channel::Numbered(ChannelNumber(value)),
         }
     }
 

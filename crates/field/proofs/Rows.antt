@@ -32,6 +32,12 @@ long-rows {given} {Row} n s few many = rows-by (by (decLe n (length s))) only
     only _ (tooShort m) = few m
     only h (long m r) = many m .exactly h .1 r
 
+-- where the other rows have numbers under k, all have
+pub long-under : {Row : Handed → Type 0} (k n : ℕ) (s : List ℕ) → 1 < k → ((h : Handed) → Row h → h .number < k) → (h : Handed) → LongEnough n s Row h
+    → h .number < k
+long-under k n s one few _ (tooShort m) = one
+long-under k n s one few h (long m r) = few h r
+
 -- what is given by another definition is given by the same rows
 pub rows-are : {given given′ : Handed} {Row : Handed → Type 0} → given ≡ given′ → Rows given Row → Rows given′ Row
 rows-are {Row = Row} e r = subst (λ (h : Handed). Rows h Row) e r

@@ -13,5 +13,7 @@ pub const TOO_LONG: u32 = 8;
 
 pub const NO_RESERVATION: u32 = 9;
 
+pub const UNNAMED_VERSION: u32 = 11;
+
 // No number of the table: the bytes are no question of the kind that was asked.
 pub const NO_QUESTION: u32 = 255;

@@ -124,7 +124,11 @@ fn entries(records: &[Vec<u8>]) -> Vec<Row> {
         same("two records, equal", records.iter().map(equal).collect()),
         same("two records, the last byte differs", records.iter().map(last_differs).collect()),
         row("get entry, all 256", get_entries.clone(), original::get_entry, ours::get_entry, (kinds::get_entry, answers::get_entry)),
-        row("get entry, all 256, by sel_decode", get_entries, original::get_entry, ours::decode_get_entry, (kinds::get_entry, answers::decode_get_entry)),
+        row("get entry, all 256, by sel_decode", get_entries.clone(), original::get_entry, ours::decode_get_entry,
+            (kinds::get_entry, answers::decode_get_entry)),
+        // No record is on a channel from 8h on, so that 1.5 demands what the Rust answers, which goes by 2.0.
+        of_ours("entry of a version, 1.5, all 256".into(), records.to_vec(), 0, ours::entry_of_1_5, (kinds::entry, answers::entry_of_1_5)),
+        of_ours("get entry of a version, 1.5, all 256".into(), get_entries, 0, ours::get_entry_of_1_5, (kinds::get_entry, answers::get_entry_of_1_5)),
     ]
 }
 

@@ -50,6 +50,8 @@ extern "C" {
     fn sel_entry(data: *const u8, data_length: usize, out: *mut u8, out_length: usize) -> Answer;
     fn sel_same_entry(a: *const u8, a_length: usize, b: *const u8, b_length: usize) -> Same;
     fn sel_get_entry(data: *const u8, data_length: usize, out: *mut u8, out_length: usize) -> Answer;
+    fn sel_entry_of(version: u8, data: *const u8, data_length: usize, out: *mut u8, out_length: usize) -> Answer;
+    fn sel_get_entry_of(version: u8, data: *const u8, data_length: usize, out: *mut u8, out_length: usize) -> Answer;
     fn sel_allocation(data: *const u8, data_length: usize, out: *mut u8, out_length: usize) -> Answer;
     fn sel_decode(kind: u8, data: *const u8, data_length: usize, out: *mut u8, out_length: usize) -> Answer;
     fn sel_length(kind: u8, len: usize) -> Answer;
@@ -113,6 +115,8 @@ calls! {
         sel_same_entry(a.as_ptr(), a.len(), b.as_ptr(), b.len())
     };
     get_entry, hex: |data, room| sel_get_entry(data.as_ptr(), data.len(), room.out.as_mut_ptr(), room.out.len());
+    entry_of_1_5, hex: |data, room| sel_entry_of(0x51, data.as_ptr(), data.len(), room.out.as_mut_ptr(), room.out.len());
+    get_entry_of_1_5, hex: |data, room| sel_get_entry_of(0x51, data.as_ptr(), data.len(), room.out.as_mut_ptr(), room.out.len());
     allocation, hex: |data, room| sel_allocation(data.as_ptr(), data.len(), room.out.as_mut_ptr(), room.out.len());
     decode_entry, hex: |data, room| decode(b'e', data, room);
     decode_get_entry, hex: |data, room| decode(b'g', data, room);

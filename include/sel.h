@@ -6,8 +6,8 @@
  * allocated, and every call ends. The statements: crates/abi has each contract, crates/claims what is said here beyond them.
  *
  * Numbers handed back (docs/SCOPE.md): 0 accepted, 1 too short, 2 unknown record type, 3 invalid channel, 4 no room, 5 bad capture, 8 too long,
- * 9 a reservation of 0; 255 no such letter, command or number, or not the bytes of one. Where the number is not 0, every lent slice is as it was.
- * Where it is 0, what stands behind the bytes written is as it was. */
+ * 9 a reservation of 0, 11 no such version; 255 no such letter, command or number, or not the bytes of one. Where the number is not 0, every lent
+ * slice is as it was. Where it is 0, what stands behind the bytes written is as it was. */
 #ifndef SEL_H
 #define SEL_H
 
@@ -26,7 +26,7 @@ typedef struct SelAnswer {
     size_t value;
 } SelAnswer;
 
-/* The most bytes that sel_entry, sel_get_entry and sel_allocation write, and sel_decode where it writes no text. */
+/* The most bytes that sel_entry, sel_get_entry, sel_entry_of, sel_get_entry_of and sel_allocation write, and sel_decode where it writes no text. */
 #define SEL_FLAT 24
 
 /* A record of the log, 16 bytes or more; those behind the sixteenth are not looked at. Writes, numbers in little-endian order:
@@ -61,6 +61,23 @@ SelSame sel_same_entry(const uint8_t *a, size_t a_length, const uint8_t *b, size
  * 1 with 18 under 18 bytes; then 2 and 3 as sel_entry; 4 needs two bytes more. */
 SelAnswer sel_get_entry(const uint8_t *data, size_t data_length, uint8_t *out, size_t out_length);
 
+/* The versions that sel_entry_of and sel_get_entry_of take, by the number that Get Device ID gives. */
+#define SEL_IPMI_1_5 0x51
+#define SEL_IPMI_2_0 0x02
+
+/* A record of the log, by the channels of the server's own version: 51h is IPMI 1.5, which reserves 8h to Dh; 02h is 2.0, which reserves Ch and Dh alone. The
+ * version is the IPMI version byte of the server's Get Device ID answer, and never that of Get SEL Info, which is 51h on servers of 2.0 too.
+ * 11 for any other version, whatever the bytes and however many; then 1 and 2 as sel_entry; 3 with the channel for a system event on a channel that the version
+ * reserves; then 4. Writes as sel_entry does. So under 2.0 it is sel_entry; what is accepted under 1.5 is accepted under 2.0, with the same bytes; and the two
+ * versions differ exactly on system events on channels 8h to Bh, which 1.5 alone refuses. */
+SelAnswer sel_entry_of(uint8_t version, const uint8_t *data, size_t data_length, uint8_t *out, size_t out_length);
+
+/* The answer to Get SEL Entry, by the channels of the server's own version, which is that of sel_entry_of. 11 for any other version, whatever the bytes and
+ * however many; then 1 and 2 as sel_get_entry; 3 as sel_entry_of of the bytes from the third on; then 4. Writes as sel_get_entry does. So under 2.0 it is
+ * sel_get_entry; what is accepted under 1.5 is accepted under 2.0, with the same bytes; and the two versions differ exactly on system events on channels 8h
+ * to Bh. */
+SelAnswer sel_get_entry_of(uint8_t version, const uint8_t *data, size_t data_length, uint8_t *out, size_t out_length);
+
 /* The answer to Get SEL Allocation Info. Writes 9 bytes: units (2), unit size (2), free units (2), largest free block (2), maximum record size.
  * 1 with 9 under 9 bytes; then 4. */
 SelAnswer sel_allocation(const uint8_t *data, size_t data_length, uint8_t *out, size_t out_length);
@@ -70,6 +87,8 @@ SelAnswer sel_allocation(const uint8_t *data, size_t data_length, uint8_t *out, 
  *   y  a record: the text of its event, empty for an OEM record; refused as by sel_entry
  *   g  the answer to Get SEL Entry: sel_get_entry
  *   p  the same answer: its sixteen record bytes; none under 18 bytes, which is accepted with 0 bytes
+ *   E  a version, and then a record: sel_entry_of
+ *   G  a version, and then the answer to Get SEL Entry: sel_get_entry_of
  *   i  the answer to Get SEL Info: major, minor, entries (2), free bytes (2), last add (4), last delete (4), overflow (0, 1), the mask of the
  *      supported commands (8 Delete, 4 Partial Add, 2 Reserve, 1 Get Allocation Info), their count; 1 with 14 under 14 bytes, 8 over 14
  *   a  the answer to Get SEL Allocation Info: sel_allocation
@@ -85,8 +104,8 @@ SelAnswer sel_allocation(const uint8_t *data, size_t data_length, uint8_t *out, 
  *   s  a time (4): sel_log_time_text
  *   n  a record id (2): 1 unless it is 0000h or FFFFh, which name no record; 1 for 0000h, which asks for the first; 1 for FFFFh, the last; the id (2)
  *   q  a request: 40h, 41h or 42h; 47h, reservation (2), AAh or 00h; 43h, reservation (2), record id (2): sel_request
- * 255 for another number of bytes than d, v, D, V, L, x, t, s, n and q have, and for a request that is none of these. Texts have at most
- * SEL_EVENT_TEXT (70) bytes, all others at most SEL_FLAT (24). */
+ * 255 for another number of bytes than d, v, D, V, L, x, t, s, n and q have, for E and G where there is not even the version's byte, and for a request that is
+ * none of these. Texts have at most SEL_EVENT_TEXT (70) bytes, all others at most SEL_FLAT (24). */
 SelAnswer sel_decode(uint8_t kind, const uint8_t *data, size_t data_length, uint8_t *out, size_t out_length);
 
 /* What the length of an answer alone decides, before there is a byte of it:

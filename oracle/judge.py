@@ -1,5 +1,6 @@
 """What the port has to answer: the Rust's answer, and the model's where it has one. Where both have one, the model's mapped back by model.ported, and by nothing
-else, must be the Rust's."""
+else, must be the Rust's. The Rust has no versions, and its rule is that of 2.0: of a question with a version it is asked what follows, and under 1.5 its answer
+is narrowed first, as channels 8h to Bh are reserved there."""
 
 import sys
 
@@ -7,18 +8,37 @@ sys.dont_write_bytecode = True  # no __pycache__ beside the sources
 import model
 from rust import stop
 
-BOTH = ("=", *model.NEEDED)  # the kinds of questions that both answer
+BOTH = ("=", *model.NEEDED)  # the kinds of questions to the Rust that both answer
 PANIC = "panic"
 
 
+def put(question):
+    """The question that the Rust is asked: without its version where that is a named one, and else as it stands."""
+    kind, _, digits = question.partition(" ")
+    if kind not in model.VERSIONED or model.answer(question) in ("?", model.UNNAMED):
+        return question
+    return f"{model.VERSIONED[kind][0]} {digits[2:]}"
+
+
+def narrowed(question, rust):
+    """The Rust's answer as the question's version has it: under 1.5 an entry of the system on a channel 8h to Bh is refused."""
+    kind, _, digits = question.partition(" ")
+    if kind in model.VERSIONED and digits[:2] == "51" and rust[:2] == "0 ":
+        flat = bytes.fromhex(rust[2:])[2 if kind == "G" else 0:]  # behind the next id
+        if flat[0] == 0x00 and 0x8 <= flat[9] <= 0xB:
+            return f"3 {flat[9]:02X}"
+    return rust
+
+
 def due(question, rust):
-    """The answer that is due. Where the two judges part, that is told, and all is stopped."""
-    modelled = model.answer(question)
+    """The answer that is due, by the Rust's to what is put to it. Where the two judges part, that is told, and all is stopped."""
+    modelled, asked = model.answer(question), put(question)
     answer = rust if modelled is None else modelled
-    if question.partition(" ")[0] not in BOTH or is_panic(question, rust):
+    if asked.partition(" ")[0] not in BOTH or is_panic(question, rust):
         return answer
-    # a bare 1 is the Rust's alone: the model says what was short
-    if answer == "1" or model.ported(answer) != rust:
+    # a bare 1 is the Rust's alone: the model says what was short, and with a version it says every refusal
+    untold = answer == "1" or modelled is None and asked != question and rust[:2] != "0 "
+    if untold or model.ported(answer) != narrowed(question, rust):
         stop(1, f"the Rust answers {rust}, and the model {modelled}: {question[:200]}")
     return answer
 

@@ -1,7 +1,8 @@
 """The questions of the program `replay`, in the order of crates/replay/stdin.
 
 Their answers, crates/replay/stdout, come from four places: from model.py for lines that begin with p, w, s, D, V, L or `ported`, which the Rust
-does not have, and for what is refused by its length or by a reservation of 0, which it tells less of (judge.py: mapped back it must be the Rust's; of lines
+does not have, for what is refused by its length or by a reservation of 0, which it tells less of, and for what E and G refuse, as it knows no versions (judge.py:
+mapped back it must be the Rust's, which is asked e and g of what follows the version, and answers so what E and G accept; of lines
 that begin with = the two must say the same, and so must s and t of the times, and D and d, V and v of the event types, that the rules leave alone); from dump.py for
 the words `entry` and `answer`, whose accepted answers are lines of `seldump`, out of the Rust's own answers; from panics.txt where the Rust panics, which the model
 must say too; from the Rust for every other line. That a line is no question, `?`, is said by the program that asks the Rust (src/main.rs), or by model.py.
@@ -208,6 +209,53 @@ def damages():
         yield from damaged(kind, good)
 
 
+VERSIONS = (0x51, 0x02)  # 1.5 and 2.0, by their byte in a Get Device ID answer
+UNNAMED = (0x00, 0x20, 0x15, 0x52, 0xFF)  # none: both with their digits the other way round, too
+
+
+def versioned(kind, version, data):
+    return question(kind, bytes([version]) + data)
+
+
+def version_bytes():
+    """Every version byte: before a record that is good, of a channel that 1.5 alone reserves, cut short and empty; before a good answer."""
+    for version in range(256):
+        for record in (RECORD, changed(RECORD, 8, 0x90), RECORD[:15], b""):
+            yield versioned("E", version, record)
+        yield versioned("G", version, GOOD["g"])
+
+
+def versioned_channels():
+    """Under both versions every channel, by an address and by a software id; of a record with the lowest and the highest byte that has it."""
+    for version in VERSIONS:
+        for record in (RECORD, BY_SOFTWARE):
+            for channel in range(0x00, 0x100, 0x10):
+                yield from (versioned("E", version, changed(record, 8, channel | low)) for low in (0x0, 0xF))
+                yield versioned("G", version, word(2) + changed(record, 8, channel))
+
+
+def versioned_types():
+    """Under both versions the edges of the ranges of types, with a channel that 1.5 alone reserves and with one that both do: OEM records have none."""
+    for version in VERSIONS:
+        for record_type in (0x01, 0x02, 0x03, 0xBF, 0xC0, 0xDF, 0xE0, 0xFF):
+            for channel in (0x90, 0xC0):
+                record = changed(changed(RECORD, 2, record_type), 8, channel)
+                yield from (versioned("E", version, record), versioned("G", version, word(2) + record))
+
+
+def versioned_lengths():
+    """Every length to past the fields, under both versions and under bytes that are none; fewer of these before an answer."""
+    for kind, good, versions in (("E", RECORD, VERSIONS + UNNAMED), ("G", GOOD["g"], VERSIONS + UNNAMED[:2])):
+        for version in versions:
+            yield from (versioned(kind, version, (good + mixed(length))[:length]) for length in range(41))
+
+
+def versioned_damages():
+    """A good record behind each version, which is damaged too."""
+    for version in VERSIONS:
+        yield from damaged("E", bytes([version]) + RECORD)
+
+
 def texts_of_records():
     """Generic event types, then sensor-specific ones, then two that have no text; asserted and deasserted."""
     cases = [(event, 0x01) for event in range(0x01, 0x0D)]
@@ -396,7 +444,7 @@ def parsed(asked):
             yield name + line[1:]
 
 
-LETTERS = "eygpiarcdvDVLxtsnqw="
+LETTERS = "eygpiarcdvDVLEGxtsnqw="
 WORDED = ("channel", "unit", "ported")
 FIXED = {"d": 3, "v": 3, "D": 4, "V": 4, "L": 5, "x": 3, "t": 4, "s": 4, "n": 2, "channel": 1, "unit": 1, "ported": 6, "=": 32}
 
@@ -406,7 +454,8 @@ def malformed():
     yield ""
     yield from (chr(c) for c in (0x00, 0x09, 0x0D, 0x20, 0x7F, 0xE9))
     for kind in (*LETTERS, *WORDED, *PARSERS.values()):
-        yield from (kind, kind + "00", kind.upper() + " 00", kind + kind + " 00", f" {kind} 00", f"{kind}  00", f"{kind}\t00", f"{kind}:00")
+        lines = (kind, kind + "00", kind.upper() + " 00", kind + kind + " 00", f" {kind} 00", f"{kind}  00", f"{kind}\t00", f"{kind}:00")
+        yield from (line for line in lines if line not in ("E 00", "G 00"))  # these two have a version, so they are questions
         data = bytes([0xAB]) * FIXED.get(kind, 18)
         good = question(kind, data)
         yield from (good + "0", good.lower(), good + " ", good + "\r", good + "\0", good + " 00", good[:-1] + "G", good[:-1] + "/", good[:-1] + ":",
@@ -416,7 +465,7 @@ def malformed():
     for c in range(0x21, 0x7F):
         if chr(c) not in LETTERS:
             yield chr(c) + " 00"
-    yield from ("chan 00", "channels 00", "units 00", "entries 00", "answers 00", "none", "?")
+    yield from ("E ", "G ", "chan 00", "channels 00", "units 00", "entries 00", "answers 00", "none", "?")
 
 
 def longest():
@@ -427,7 +476,8 @@ def longest():
 
 LETTERED = [
     *channels_and_units(), *time_texts(), *allocations(), *event_data(), *typed_data(), *event_texts(),
-    *lengths(), *lengths_alone(), *mapped_back(), *eight_answers(), *fields(), *timed_records(), *typed_records(), *oem_records(), *damages(), *texts_of_records(),
+    *lengths(), *lengths_alone(), *mapped_back(), *eight_answers(), *fields(), *timed_records(), *typed_records(), *oem_records(), *damages(),
+    *version_bytes(), *versioned_channels(), *versioned_types(), *versioned_lengths(), *versioned_damages(), *texts_of_records(),
     *pairs(), *record_ids(), *requests(), *small_walks(), *walk_edges(), *long_walks(), *malformed(), *longest(),
 ]
 

@@ -29,7 +29,7 @@ ghost use mathlib.Core.Path.{_≡_};
 ghost use mathlib.Core.List.{[], _∷_};
 ghost use Rattle.field.specs.Handed.{handed, ported};
 ghost use Rattle.flat_form.specs.Form.{Gives, refusal};
-ghost use Rattle.flat_record.specs.Records.{entryFlat, getEntryFlat};
+ghost use Rattle.flat_record.specs.Records.{entryFlat, entryFlatOf, getEntryFlat, getEntryFlatOf};
 ghost use Rattle.flat_answers.specs.Answers.{allocationFlat};
 ghost use Rattle.flat.specs.Kinds.{flatOf};
 ghost use Rattle.flat.specs.Lengths.{lengthSaid};
@@ -50,6 +50,21 @@ pub extern "C" fn sel_get_entry(data: &[u8], out: &mut [u8]) -> SelAnswer
     ensures { λ r. ⌜ Gives (getEntryFlat (now («data» .entry))) (now (out .entry)) r (now (out .exit)) ⌝ }
 {
     flat_record::get_entry(data, out)
+}
+
+// Both under the version that has this number in Get Device ID.
+#[no_mangle]
+pub extern "C" fn sel_entry_of(version: u8, data: &[u8], out: &mut [u8]) -> SelAnswer
+    ensures { λ r. ⌜ Gives (entryFlatOf version (now («data» .entry))) (now (out .entry)) r (now (out .exit)) ⌝ }
+{
+    flat_record::entry_of(version, data, out)
+}
+
+#[no_mangle]
+pub extern "C" fn sel_get_entry_of(version: u8, data: &[u8], out: &mut [u8]) -> SelAnswer
+    ensures { λ r. ⌜ Gives (getEntryFlatOf version (now («data» .entry))) (now (out .entry)) r (now (out .exit)) ⌝ }
+{
+    flat_record::get_entry_of(version, data, out)
 }
 
 // The answer to Get SEL Allocation Info.

@@ -16,6 +16,7 @@ use Rattle.record_line.proofs.PrintedTime.{printed-time}
 use Rattle.claims.specs.Claims.{Claims}
 use Rattle.claims.specs.Demand2.{Demand2}
 use Rattle.claims.proofs.Cases.{cases}
+use Rattle.claims.proofs.Channels15.{channels-15}
 use Rattle.claims.proofs.Demand1.{demand-1}
 use Rattle.claims.proofs.Demand3.{demand-3}
 use Rattle.claims.proofs.Equality.{equality}
@@ -57,4 +58,5 @@ claims =
       whatWasShort = what-was-short validChannel;
       lengthsNeeded = lengths-needed;
       mappedBack = mapped-back;
+      channels15 = channels-15;
     }

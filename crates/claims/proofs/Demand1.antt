@@ -1,13 +1,13 @@
 -- Demand 1. Assumes nothing.
 use Prim.Native.Nat.{ℕ, _≤_, _<_}
 use mathlib.Core.Path.{_≡_, refl, sym, ap, subst, _∙_}
-use mathlib.Core.Bool.{Bool, true, _||_}
+use mathlib.Core.Bool.{Bool, not, true, _||_}
 use mathlib.Core.List.{List, []}
 use mathlib.Core.Logic.{_↔_, inl, inr}
 use native.Mathlib.Omega.{arith}
 use native.Mathlib.Decide.{decLe, ℕ-discrete}
 use borrow.Author.Tests.{le-leb, lt-leb, ne-eqb}
-use lib.Dec.{eqb, leb}
+use lib.Dec.{eqb, leb, ltb}
 use lib.ListN.{length, drop}
 use Rattle.field.specs.Bits.{byteAt, le32At}
 use Rattle.field.specs.Choose.{if_then_else_, within}
@@ -19,8 +19,12 @@ use Rattle.text.specs.Written.{Wrote, numberOf as writtenNumber}
 use Rattle.text.specs.declared.Written.{Written}
 use Rattle.text.proofs.Room.{room}
 use Rattle.connection.specs.Channel.{validChannel}
+use Rattle.connection.specs.Version.{isVersion, validBy}
+use Rattle.sel.specs.Entry.{channelIn, typeAt}
 use Rattle.sel.specs.Rows as Record
 use Rattle.sel.specs.Rows.{RecordRow}
+use Rattle.sel.specs.Versioned.{entryHandsOf}
+use Rattle.get_entry.specs.Versioned.{answerHandsOf}
 use Rattle.sel_commands.specs.Info as Info
 use Rattle.sel_commands.specs.Info.{InfoRow}
 use Rattle.sel_commands.specs.Reserve as Reserve
@@ -42,13 +46,14 @@ use Rattle.flat_form.specs.declared.SelAnswer.{SelAnswer}
 use Rattle.flat_form.proofs.Laws.{Told, gives-is, short, told, turned, wrote}
 use Rattle.flat_form.proofs.Untouched.{untouched-else}
 use Rattle.flat_record.specs.Event.{eventDataFlat, typedDataFlat}
-use Rattle.flat_record.specs.Records.{recordPartFlat}
+use Rattle.flat_record.specs.Records.{entryFlatOf, getEntryFlatOf, recordPartFlat}
 use Rattle.flat_answers.specs.Answers.{recordIdFlat}
 use Rattle.flat.specs.Kinds.{flatBy, flatOf}
 use Rattle.flat.specs.Lengths.{lengthFlat, lengthOf, ofAnswer}
 use Rattle.flat.specs.Letters.{kindOf}
 use Rattle.flat.specs.Requests.{clearOf, questionLength, requestFlat, requestOf}
 use Rattle.flat.specs.Texts.{entryTextFlat, eventDataTextFlat, eventTextFlat, logTimeTextFlat, timeTextFlat, typedDataTextFlat}
+use Rattle.flat.specs.Versions.{behindVersion}
 use Rattle.flat.specs.declared.Kind.{Kind}
 use Rattle.flat.specs.declared.Question.{Question}
 use Rattle.flat.proofs.Counts.{flat-counts}
@@ -161,11 +166,32 @@ length-not-four letter n = by (kindOf letter)
     by (Kind.Other question) = none
     by Kind.NoKind = none
 
+entry-of-not-four : (b : ℕ) (s : List ℕ) → entryHandsOf b s .number ≡ 4 → ⊥
+unfolding entryHandsOf
+entry-of-not-four b s =
+    let other : (h : Handed) → Type 0 = λ h. h .number ≡ 4 → ⊥ in
+    either other (not (isVersion b)) _ _ (λ e. omega (arith, e))
+    (either other (ltb (length s) 16) _ _ (λ e. omega (arith, e))
+    (either other (eqb (typeAt s) 0x02) _ _ (either other (validBy b (channelIn s)) _ _ (λ e. omega (arith, e)) (λ e. omega (arith, e)))
+    (either other (within 0xC0 0xFF (typeAt s)) _ _ (λ e. omega (arith, e)) (λ e. omega (arith, e)))))
+
+answer-of-not-four : (b : ℕ) (s : List ℕ) → answerHandsOf b s .number ≡ 4 → ⊥
+unfolding answerHandsOf
+answer-of-not-four b s =
+    let other : (h : Handed) → Type 0 = λ h. h .number ≡ 4 → ⊥ in
+    either other (not (isVersion b)) _ _ (λ e. omega (arith, e)) (either other (ltb (length s) 18) _ _ (λ e. omega (arith, e)) (entry-of-not-four b (drop 2 s)))
+
 not-four : (kind : Kind) (s : List ℕ) → NotFour (flatBy kind s)
-unfolding lengthFlat recordPartFlat entryTextFlat eventDataFlat eventDataTextFlat typedDataFlat typedDataTextFlat eventTextFlat timeTextFlat logTimeTextFlat recordIdFlat requestFlat
+unfolding behindVersion entryFlatOf getEntryFlatOf decided lengthFlat recordPartFlat entryTextFlat eventDataFlat eventDataTextFlat typedDataFlat typedDataTextFlat eventTextFlat timeTextFlat logTimeTextFlat recordIdFlat requestFlat
 not-four (Kind.Answer kind) s = subst NotFour (sym (decides-flat kind .1 s)) (decided-not-four kind s _)
 not-four (Kind.Other Question.EntryText) s = decided-not-four AnswerKind.Entry s _
 not-four (Kind.Other Question.RecordPart) s = tt
+not-four (Kind.Other Question.EntryOf) s =
+    let b = byteAt s 0 in
+    either NotFour (eqb (length s) 0) _ _ none (either NotFour (eqb (entryHandsOf b (drop 1 s) .number) 0) _ _ tt (entry-of-not-four b (drop 1 s)))
+not-four (Kind.Other Question.GetEntryOf) s =
+    let b = byteAt s 0 in
+    either NotFour (eqb (length s) 0) _ _ none (either NotFour (eqb (answerHandsOf b (drop 1 s) .number) 0) _ _ tt (answer-of-not-four b (drop 1 s)))
 not-four (Kind.Other Question.EventData) s = chosen (eqb (length s) 3) _ tt
 not-four (Kind.Other Question.EventDataText) s = chosen (eqb (length s) 3) _ tt
 not-four (Kind.Other Question.TypedData) s = chosen (eqb (length s) 4) _ tt

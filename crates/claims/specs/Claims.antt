@@ -1,6 +1,6 @@
 -- What is claimed of the port, whole: the three demands, the cases that its rules mark as proved, what the header of the library for C says,
 -- and what was asked for since: what two equal entries may differ in, texts that share their bytes, times before the
--- clock was set, event data by event type, and what was short. Assumes nothing.
+-- clock was set, event data by event type, what was short, and channels of IPMI 1.5. Assumes nothing.
 use Prim.Native.Nat.{ℕ}
 use mathlib.Core.List.{List}
 use Rattle.field.specs.Handed.{Handed}
@@ -14,6 +14,7 @@ use Rattle.answers.specs.declared.AnswerKind.{AnswerKind}
 use Rattle.record_line.specs.PrintedData.{PrintedData}
 use Rattle.record_line.specs.PrintedTime.{PrintedTime}
 use Rattle.claims.specs.Cases.{Cases}
+use Rattle.claims.specs.Channels15.{Channels15}
 use Rattle.claims.specs.Demand1.{Demand1}
 use Rattle.claims.specs.Demand2.{Demand2}
 use Rattle.claims.specs.Demand3.{Demand3}
@@ -40,3 +41,5 @@ pub record Claims : Type 0 where
   pub lengthsNeeded : LengthsNeeded
   -- and the mapping back to the numbers of the Rust, by which demand 2 holds
   pub mappedBack : (h : Handed) → MappedBack h
+  -- records and get-entry answers under a version of the standard
+  pub channels15 : Channels15

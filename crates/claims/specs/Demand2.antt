@@ -2,6 +2,7 @@
 -- these differ). So a parser that refuses all or answers one entry, and a writer that writes nothing, meet none of it. Assumes nothing.
 use Prim.Native.Nat.{ℕ}
 use mathlib.Core.Path.{_≡_}
+use mathlib.Core.Bool.{Bool}
 use mathlib.Core.List.{List}
 use Rattle.connection.specs.Channel.{validChannel}
 use Rattle.answers.specs.Answer.{Answer}
@@ -24,8 +25,8 @@ pub record Demand2 : Type 0 where
   pub timeTexts : TimeTexts
   pub requests : Requests
   pub writes : Writes
-  -- the flat bytes are those of what is parsed, and so is the line of a record: parser, flat form and `seldump` cannot part
-  pub flats : (s : List ℕ) → FlatOfParsed s
+  -- the flat bytes are those of what is parsed, whatever channels are valid, and so is the line of a record: parser, flat form and `seldump` cannot part
+  pub flats : (valid : ℕ → Bool) (s : List ℕ) → FlatOfParsed valid s
   pub lines : (s : List ℕ) → SameLine s
   -- every answer of any length, read as any kind: whatever a parser says, with 1, 8 and 9 mapped back to 1 with nothing it is exactly what the Rust
   -- returns; and where the Rust panics, the port refuses

@@ -1,4 +1,5 @@
 pub mod Cases
+pub mod Channels15
 pub mod Claims
 pub mod Demand1
 pub mod Demand2

@@ -9,6 +9,7 @@ use Rattle.field.specs.Placed.{placed}
 use Rattle.text.specs.Numbers.{decimal, decimalIn, digitOf}
 use Rattle.text.specs.Text.{bytes}
 use Rattle.connection.specs.Channel.{validChannel}
+use Rattle.connection.specs.Version.{validChannel15}
 use Rattle.storage.specs.Alloc.{parseAlloc}
 use Rattle.storage.specs.Time.{logTimeText, timeText}
 use Rattle.event_data.specs.DataText.{dataText, joined, unlessFFh}
@@ -17,20 +18,23 @@ use Rattle.typed_data.specs.Table.{classOf, toldOf, typedOf}
 use Rattle.typed_data.specs.TypedText.{typedText}
 use Rattle.event_offset.specs.Event.{eventText}
 use Rattle.sel.specs.Entry.{parseEntry, plainRecord, stampedRecord, systemBy, systemRecord}
+use Rattle.sel.specs.Versioned.{entryHandsOf}
 use Rattle.get_entry.specs.GetEntry.{entryRequest, parseAnswer, recordPart}
+use Rattle.get_entry.specs.Versioned.{answerHandsOf}
 use Rattle.sel_commands.specs.Clear.{clearRequest, parseClear}
 use Rattle.sel_commands.specs.Info.{howMany, parseInfo}
 use Rattle.sel_commands.specs.Reserve.{parseReserve}
 use Rattle.answers.specs.Length.{lengthAnswer}
 use Rattle.flat_form.specs.Form.{Flat, decided, flatAnswer, flatLeaves, noQuestion, refused, said, taken}
 use Rattle.flat_record.specs.Event.{eventDataFlat, typedDataFlat}
-use Rattle.flat_record.specs.Records.{entryFlat, getEntryFlat, plainFlat, recordFlat, recordPartFlat, stampedFlat, systemFlat}
+use Rattle.flat_record.specs.Records.{entryFlatIn, entryFlatOf, getEntryFlatIn, getEntryFlatOf, plainFlat, recordFlat, recordPartFlat, stampedFlat, systemFlat}
 use Rattle.flat_answers.specs.Answers.{allocationFlat, clearFlat, idFlat, infoFlat, recordIdFlat, reserveFlat}
 use Rattle.flat.specs.Kinds.{flatOf}
 use Rattle.flat.specs.Lengths.{lengthFlat}
 use Rattle.flat.specs.Letters.{kindOf}
 use Rattle.flat.specs.Requests.{clearOf, questionLength, requestFlat, requestOf}
 use Rattle.flat.specs.Texts.{entryTextFlat, eventDataTextFlat, eventTextFlat, logTimeTextFlat, timeTextFlat, typedDataTextFlat}
+use Rattle.flat.specs.Versions.{behindVersion}
 
 data Case : Type 0 where
   case : Char → List ℕ → Flat → Case
@@ -48,6 +52,9 @@ Right cases = asked cases ≡ told cases
 
 abbrev system : List ℕ
 system = 0x01 ∷ 0x00 ∷ 0x02 ∷ 0xE8 ∷ 0x03 ∷ 0x00 ∷ 0x00 ∷ 0x20 ∷ 0x00 ∷ 0x04 ∷ 0x01 ∷ 0x30 ∷ 0x01 ∷ 0x59 ∷ 0x5A ∷ 0x55 ∷ []
+
+abbrev on-channel-9 : List ℕ
+on-channel-9 = 0x01 ∷ 0x00 ∷ 0x02 ∷ 0xE8 ∷ 0x03 ∷ 0x00 ∷ 0x00 ∷ 0x20 ∷ 0x90 ∷ 0x04 ∷ 0x01 ∷ 0x30 ∷ 0x01 ∷ 0x59 ∷ 0x5A ∷ 0x55 ∷ []
 
 records : Right
     (case "e" system
@@ -67,8 +74,24 @@ records : Right
     ∷ case "g" (0x05 ∷ 0x00 ∷ 0x04 ∷ 0x00 ∷ 0x03 ∷ replicate 13 7) (refused (handed 2 (3 ∷ [])))
     ∷ case "p" (0x05 ∷ 0x00 ∷ system) (taken system)
     ∷ [])
-unfolding kindOf decided validChannel entryFlat parseEntry systemRecord systemBy stampedRecord plainRecord recordFlat systemFlat stampedFlat plainFlat entryTextFlat eventText getEntryFlat parseAnswer recordPartFlat recordPart
+unfolding kindOf decided validChannel entryFlatIn parseEntry systemRecord systemBy stampedRecord plainRecord recordFlat systemFlat stampedFlat plainFlat entryTextFlat eventText getEntryFlatIn parseAnswer recordPartFlat recordPart
 records = refl
+
+-- under a version: a number that names none, before all else; a record of 0 bytes; channel 9h under 1.5, and under 2.0; an OEM record without a time
+versions : Right
+    (case "E" [] noQuestion
+    ∷ case "E" (0x15 ∷ []) (refused (handed 11 []))
+    ∷ case "E" (0x51 ∷ []) (refused (handed 1 (16 ∷ [])))
+    ∷ case "E" (0x51 ∷ on-channel-9) (refused (handed 3 (9 ∷ [])))
+    ∷ case "E" (0x02 ∷ on-channel-9)
+    (taken (0x00 ∷ 0x01 ∷ 0x00 ∷ 0xE8 ∷ 0x03 ∷ 0 ∷ 0 ∷ 0x00 ∷ 0x10 ∷ 0x09 ∷ 0x00 ∷ 0x00 ∷ 0x04 ∷ 0x01 ∷ 0x30 ∷ 0x00 ∷ 0x01 ∷ 0x09 ∷ 0x01 ∷ 0x5A ∷ 0x01 ∷ 0x55 ∷ []))
+    ∷ case "G" (0x15 ∷ 0x05 ∷ 0x00 ∷ on-channel-9) (refused (handed 11 []))
+    ∷ case "G" (0x51 ∷ replicate 17 0) (refused (handed 1 (18 ∷ [])))
+    ∷ case "G" (0x51 ∷ 0x05 ∷ 0x00 ∷ on-channel-9) (refused (handed 3 (9 ∷ [])))
+    ∷ case "G" (0x51 ∷ 0x05 ∷ 0x00 ∷ 0x04 ∷ 0x00 ∷ 0xE0 ∷ replicate 13 0x90) (taken (0x05 ∷ 0x00 ∷ 0x02 ∷ 0x04 ∷ 0x00 ∷ 0xE0 ∷ replicate 13 0x90))
+    ∷ [])
+unfolding kindOf decided behindVersion entryFlatOf entryHandsOf getEntryFlatOf answerHandsOf validChannel validChannel15 recordFlat systemFlat plainFlat
+versions = refl
 
 answers : Right
     (case "i" (0x51 ∷ 2 ∷ 0 ∷ 0 ∷ 1 ∷ 3 ∷ 0 ∷ 0 ∷ 0 ∷ 4 ∷ 0 ∷ 0 ∷ 0 ∷ 0x8A ∷ []) (taken (1 ∷ 5 ∷ 2 ∷ 0 ∷ 0 ∷ 1 ∷ 3 ∷ 0 ∷ 0 ∷ 0 ∷ 4 ∷ 0 ∷ 0 ∷ 0 ∷ 1 ∷ 0x0A ∷ 2 ∷ []))

@@ -1,5 +1,6 @@
 mod Cases
 pub mod Counts
+pub mod FirstByte
 pub mod Laws
 pub mod LengthSaid
 pub mod Ported

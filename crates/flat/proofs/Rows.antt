@@ -20,7 +20,7 @@ use Rattle.flat_form.specs.Form.{Gives, decided, fromWritten, refusal, refused,
 use Rattle.flat_form.specs.declared.SelAnswer.{SelAnswer}
 use Rattle.flat_form.proofs.Laws.{gives-is}
 use Rattle.flat_form.proofs.Untouched.{untouched-else}
-use Rattle.flat_record.specs.Records.{entryFlat, getEntryFlat}
+use Rattle.flat_record.specs.Records.{entryFlatIn, getEntryFlatIn}
 use Rattle.flat_answers.specs.Answers.{allocationFlat, clearFlat, infoFlat, reserveFlat}
 use Rattle.flat.specs.Kinds.{answerFlat, flatBy, flatOf}
 use Rattle.flat.specs.Letters.{kindOf}
@@ -29,7 +29,7 @@ use Rattle.flat.specs.declared.Kind.{Kind}
 
 -- each kind of answer is decided by its own number, with flat bytes that the kind has of its bytes
 unfoldable pub decides : (kind : AnswerKind) → (flat : List ℕ → List ℕ) × ((s : List ℕ) → answerFlat kind s ≡ decided (handsOf validChannel kind s) (flat s))
-unfolding entryFlat getEntryFlat infoFlat allocationFlat reserveFlat clearFlat
+unfolding entryFlatIn getEntryFlatIn infoFlat allocationFlat reserveFlat clearFlat
 decides AnswerKind.Entry = (_, λ s. refl)
 decides AnswerKind.GetEntry = (_, λ s. refl)
 decides AnswerKind.Info = (_, λ s. refl)

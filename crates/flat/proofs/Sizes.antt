@@ -29,7 +29,7 @@ use Rattle.answers.specs.declared.AnswerKind.{AnswerKind}
 use Rattle.answers.proofs.Requests.{request-lengths}
 use Rattle.flat_form.specs.Form.{Flat, decided, noQuestion, refused, taken}
 use Rattle.flat_record.specs.Event.{eventDataFlat, typedDataFlat}
-use Rattle.flat_record.specs.Records.{entryFlat, getEntryFlat, plainFlat, recordFlat, recordPartFlat, stampedFlat}
+use Rattle.flat_record.specs.Records.{entryFlat, entryFlatIn, entryFlatOf, getEntryFlatIn, getEntryFlatOf, plainFlat, recordFlat, recordPartFlat, stampedFlat}
 use Rattle.flat_record.proofs.Laws.{plain-length, stamped-length, system-length}
 use Rattle.flat_answers.specs.Answers.{allocationFlat, clearFlat, idFlat, infoFlat, recordIdFlat, reserveFlat}
 use Rattle.flat.specs.Kinds.{answerFlat, flatBy}
@@ -38,6 +38,7 @@ use Rattle.flat.specs.Letters.{isText, kindOf}
 use Rattle.flat.specs.Requests.{clearOf, questionLength, requestFlat, requestOf}
 use Rattle.flat.specs.Sizes.{Sizes, flatRoom, requestRoom}
 use Rattle.flat.specs.Texts.{entryTextFlat, eventDataTextFlat, eventTextFlat, logTimeTextFlat, timeTextFlat, typedDataTextFlat}
+use Rattle.flat.specs.Versions.{behindVersion}
 use Rattle.flat.specs.declared.Kind.{Kind}
 use Rattle.flat.specs.declared.Question.{Question}
 
@@ -67,16 +68,16 @@ module _ (s : List ℕ) where
   sixteen = enough (entry-rows validChannel s .rows .exactly _ .0 refl)
 
   system-has : typeAt s ≡ 0x02 → Has (λ l. length l ≡ 22) (entryFlat s)
-  unfolding entryFlat recordFlat
+  unfolding entryFlatIn recordFlat
   system-has t = decided-has _ _ _ (λ z. rw (eq-eqb (typeAt s) 0x02 t) (system-length s))
 
   stamped-has : 0xC0 ≤ typeAt s → typeAt s ≤ 0xDF → Has (λ l. length l ≡ 18) (entryFlat s)
-  unfolding entryFlat recordFlat
+  unfolding entryFlatIn recordFlat
   stamped-has a b =
       decided-has _ _ _ (λ z. rw (ne-eqb (typeAt s) 0x02 (λ e. omega arith), le-leb 0xC0 (typeAt s) a, le-leb (typeAt s) 0xDF b) (stamped-length s (sixteen z)))
 
   plain-has : 0xE0 ≤ typeAt s → Has (λ l. length l ≡ 17) (entryFlat s)
-  unfolding entryFlat recordFlat
+  unfolding entryFlatIn recordFlat
   plain-has a =
       decided-has _ _ _ (λ z. rw (ne-eqb (typeAt s) 0x02 (λ e. omega arith), le-leb 0xC0 (typeAt s) (omega arith), lt-leb (typeAt s) 0xDF (omega arith)) (plain-length s (sixteen z)))
 
@@ -111,7 +112,7 @@ request-fits room h command reservation argument =
     tt))
 
 answer-fits : (kind : AnswerKind) (s : List ℕ) → Fits flatRoom (answerFlat kind s)
-unfolding entryFlat getEntryFlat infoFlat allocationFlat reserveFlat clearFlat
+unfolding entryFlatIn getEntryFlatIn infoFlat allocationFlat reserveFlat clearFlat
 answer-fits AnswerKind.Entry s = decided-has _ _ _ (λ z. omega (arith, record-short s))
 answer-fits AnswerKind.GetEntry s = decided-has _ _ _ (λ z. omega (arith, record-short (drop 2 s)))
 answer-fits AnswerKind.Info s = decided-has _ _ _ (λ z. omega arith)
@@ -130,11 +131,15 @@ length-fits letter n = by (kindOf letter)
 -- any kind: what is known of the bytes is asked for only where the kind is a text
 module _ (s : List ℕ) where
   kind-fits : (kind : Kind) → (isText kind ≡ true → Bytes (length s) s) → Fits (if isText kind then eventRoom else flatRoom) (flatBy kind s)
-  unfolding lengthFlat recordPartFlat eventDataFlat typedDataFlat typedDataTextFlat recordIdFlat idFlat requestFlat entryTextFlat eventDataTextFlat eventTextFlat timeTextFlat logTimeTextFlat
+  unfolding behindVersion entryFlatOf getEntryFlatOf lengthFlat recordPartFlat eventDataFlat typedDataFlat typedDataTextFlat recordIdFlat idFlat requestFlat entryTextFlat eventDataTextFlat eventTextFlat timeTextFlat logTimeTextFlat
   kind-fits (Kind.Answer kind) bs = answer-fits kind s
   kind-fits (Kind.Other Question.EntryText) bs =
       decided-has _ _ _ (λ z. either (λ (l : List ℕ). length l ≤ eventRoom) (eqb (typeAt s) 0x02) _ _ (event-length _ _ _) (omega arith))
   kind-fits (Kind.Other Question.RecordPart) bs = omega (arith, part-short s)
+  kind-fits (Kind.Other Question.EntryOf) bs =
+      either (Fits flatRoom) (eqb (length s) 0) _ _ tt (decided-has _ _ _ (λ z. omega (arith, record-short (drop 1 s))))
+  kind-fits (Kind.Other Question.GetEntryOf) bs =
+      either (Fits flatRoom) (eqb (length s) 0) _ _ tt (decided-has _ _ _ (λ z. omega (arith, record-short (drop 2 (drop 1 s)))))
   kind-fits (Kind.Other Question.EventData) bs = either (Fits flatRoom) (eqb (length s) 3) _ _ (omega arith) tt
   kind-fits (Kind.Other Question.EventDataText) bs = either (Fits eventRoom) (eqb (length s) 3) _ _ (omega (arith, data-short s (bs refl .each 1) (bs refl .each 2))) tt
   kind-fits (Kind.Other Question.TypedData) bs = either (Fits flatRoom) (eqb (length s) 4) _ _ (omega arith) tt

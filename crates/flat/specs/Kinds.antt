@@ -4,12 +4,13 @@ use mathlib.Core.List.{List}
 use Rattle.answers.specs.declared.AnswerKind.{AnswerKind}
 use Rattle.flat_form.specs.Form.{Flat, noQuestion}
 use Rattle.flat_record.specs.Event.{eventDataFlat, typedDataFlat}
-use Rattle.flat_record.specs.Records.{entryFlat, getEntryFlat, recordPartFlat}
+use Rattle.flat_record.specs.Records.{entryFlat, entryFlatOf, getEntryFlat, getEntryFlatOf, recordPartFlat}
 use Rattle.flat_answers.specs.Answers.{allocationFlat, clearFlat, infoFlat, recordIdFlat, reserveFlat}
 use Rattle.flat.specs.Lengths.{lengthFlat}
 use Rattle.flat.specs.Letters.{kindOf}
 use Rattle.flat.specs.Requests.{requestFlat}
 use Rattle.flat.specs.Texts.{entryTextFlat, eventDataTextFlat, eventTextFlat, logTimeTextFlat, timeTextFlat, typedDataTextFlat}
+use Rattle.flat.specs.Versions.{behindVersion}
 use Rattle.flat.specs.declared.Kind.{Kind}
 use Rattle.flat.specs.declared.Question.{Question}
 
@@ -24,6 +25,8 @@ answerFlat AnswerKind.Clear s = clearFlat s
 abbrev pub otherFlat : Question → List ℕ → Flat
 otherFlat Question.EntryText s = entryTextFlat s
 otherFlat Question.RecordPart s = recordPartFlat s
+otherFlat Question.EntryOf s = behindVersion entryFlatOf s
+otherFlat Question.GetEntryOf s = behindVersion getEntryFlatOf s
 otherFlat Question.EventData s = eventDataFlat s
 otherFlat Question.EventDataText s = eventDataTextFlat s
 otherFlat Question.TypedData s = typedDataFlat s

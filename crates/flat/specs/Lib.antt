@@ -7,3 +7,4 @@ pub mod Requests
 pub mod Rows
 pub mod Sizes
 pub mod Texts
+pub mod Versions

@@ -2,6 +2,7 @@
 mod lengths;
 mod requests;
 mod texts;
+mod versions;
 
 use answers::AnswerKind;
 use flat_form::SelAnswer;
@@ -27,6 +28,9 @@ pub enum Question {
     EntryText,
     // An answer to Get SEL Entry, for its record's bytes.
     RecordPart,
+    // A version's number, and then a record, or an answer to Get SEL Entry.
+    EntryOf,
+    GetEntryOf,
     // Three bytes of event data.
     EventData,
     EventDataText,
@@ -78,6 +82,8 @@ fn upper_kind_of(letter: u8) -> Kind
 {
     match letter {
         b'D' => Kind::Other(Question::TypedData),
+        b'E' => Kind::Other(Question::EntryOf),
+        b'G' => Kind::Other(Question::GetEntryOf),
         b'L' => Kind::Other(Question::Length),
         b'V' => Kind::Other(Question::TypedDataText),
         _ => Kind::NoKind,
@@ -101,6 +107,8 @@ fn text_question(question: Question) -> bool
     match question {
         Question::EntryText => true,
         Question::RecordPart => false,
+        Question::EntryOf => false,
+        Question::GetEntryOf => false,
         Question::EventData => false,
         Question::EventDataText => true,
         Question::TypedData => false,
@@ -131,6 +139,8 @@ fn other(question: Question, data: &[u8], out: &mut [u8]) -> SelAnswer
     match question {
         Question::EntryText => texts::entry_text(data, out),
         Question::RecordPart => flat_record::record_part(data, out),
+        Question::EntryOf => versions::entry(data, out),
+        Question::GetEntryOf => versions::get_entry(data, out),
         Question::EventData => flat_record::event_data(data, out),
         Question::EventDataText => texts::event_data_text(data, out),
         Question::TypedData => flat_record::typed_data(data, out),

@@ -46,6 +46,8 @@ mod library {
         pub fn sel_entry(data: *const u8, data_length: usize, out: *mut u8, out_length: usize) -> Answer;
         pub fn sel_same_entry(a: *const u8, a_length: usize, b: *const u8, b_length: usize) -> Same;
         pub fn sel_get_entry(data: *const u8, data_length: usize, out: *mut u8, out_length: usize) -> Answer;
+        pub fn sel_entry_of(version: u8, data: *const u8, data_length: usize, out: *mut u8, out_length: usize) -> Answer;
+        pub fn sel_get_entry_of(version: u8, data: *const u8, data_length: usize, out: *mut u8, out_length: usize) -> Answer;
         pub fn sel_allocation(data: *const u8, data_length: usize, out: *mut u8, out_length: usize) -> Answer;
         pub fn sel_decode(kind: u8, data: *const u8, data_length: usize, out: *mut u8, out_length: usize) -> Answer;
         pub fn sel_length(kind: u8, len: usize) -> Answer;
@@ -99,6 +101,14 @@ pub(crate) fn same_entry(a: &[u8], b: &[u8]) -> Same {
 
 pub(crate) fn get_entry(data: &[u8], out: &mut [u8]) -> Answer {
     unsafe { library::sel_get_entry(data.as_ptr(), data.len(), out.as_mut_ptr(), out.len()) }
+}
+
+pub(crate) fn entry_of(version: u8, data: &[u8], out: &mut [u8]) -> Answer {
+    unsafe { library::sel_entry_of(version, data.as_ptr(), data.len(), out.as_mut_ptr(), out.len()) }
+}
+
+pub(crate) fn get_entry_of(version: u8, data: &[u8], out: &mut [u8]) -> Answer {
+    unsafe { library::sel_get_entry_of(version, data.as_ptr(), data.len(), out.as_mut_ptr(), out.len()) }
 }
 
 pub(crate) fn allocation(data: &[u8], out: &mut [u8]) -> Answer {

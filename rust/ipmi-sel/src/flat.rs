@@ -14,14 +14,20 @@ pub(crate) struct Flat {
 impl Flat {
     /// Of the bytes that are read as a kind, by its letter; the refusal where there is one.
     pub(crate) fn decode(kind: u8, data: &[u8]) -> Result<Self, Answer> {
-        let mut bytes = [0; MOST];
         // These three have functions of their own, which are the shorter way.
-        let answer = match kind {
-            b'e' => ffi::entry(data, &mut bytes),
-            b'g' => ffi::get_entry(data, &mut bytes),
-            b'a' => ffi::allocation(data, &mut bytes),
-            _ => ffi::decode(kind, data, &mut bytes),
-        };
+        Self::written(|out| match kind {
+            b'e' => ffi::entry(data, out),
+            b'g' => ffi::get_entry(data, out),
+            b'a' => ffi::allocation(data, out),
+            _ => ffi::decode(kind, data, out),
+        })
+    }
+
+    /// Of what a function of the library writes to its output.
+    #[inline]
+    pub(crate) fn written(by: impl FnOnce(&mut [u8]) -> Answer) -> Result<Self, Answer> {
+        let mut bytes = [0; MOST];
+        let answer = by(&mut bytes);
         if answer.number == 0 {
             Ok(Self { bytes, taken: 0 })
         } else {

@@ -1,8 +1,8 @@
 //! The System Event Log part of ipmi-rs-core's interface, over the library `libabi.a`, in which every function is proved to meet its
 //! contract. The library reads all bytes, and writes all texts and requests; here its flat answers become types.
 //!
-//! The names and signatures are those of ipmi-rs-core 0.6.0; [`capture`], [`Refusal`], [`Request`], [`storage::Timestamp::log_text`] and
-//! [`storage::sdr::TypedData`] are added. README.md says what differs.
+//! The names and signatures are those of ipmi-rs-core 0.6.0; [`capture`], [`Refusal`], [`Request`], [`storage::Timestamp::log_text`],
+//! [`storage::sdr::TypedData`], and [`connection::Version`] with the two functions that take it are added. README.md says what differs.
 
 pub mod capture;
 pub mod connection;

@@ -9,7 +9,7 @@ use ipmi_sel::capture::{
     bytes_that_count, find, record_bytes, refusal, refused_length, refused_slots, same_entry, walk, AnswerKind, RefusedRecord, Walk,
     WalkError, SLOT,
 };
-use ipmi_sel::connection::{Channel, ChannelNumber, LogicalUnit};
+use ipmi_sel::connection::{Channel, ChannelNumber, LogicalUnit, Version};
 use ipmi_sel::storage::sdr::{decode_event, EventData, SensorType, TypedData, TypedData2, TypedData3};
 use ipmi_sel::storage::sel::{
     ClearSel, Entry, EventGenerator, EventMessageRevision, GetSelEntry, GetSelInfo, ParseEntryError, RecordId, ReserveSel, SelAllocInfo,
@@ -130,6 +130,37 @@ fn get_entries() {
         check_cut(AnswerKind::GetEntry, bytes, GetSelEntry::parse_success_response);
         check_cut(AnswerKind::GetEntry, bytes, |bytes| record_bytes(bytes).to_vec());
     });
+}
+
+/// The channel of a system record, where 1.5 reserves it and 2.0 does not.
+fn channel_of_2_0_alone(record: &[u8]) -> Option<u8> {
+    let channel = record.get(8)? >> 4;
+    (record.len() >= 16 && record[2] == 0x02 && (0x8..=0xB).contains(&channel)).then_some(channel)
+}
+
+/// Under 2.0 what is said without a version, and under 1.5 too, but for such a channel.
+fn check_versions<T: Clone + PartialEq + fmt::Debug>(
+    record: &[u8],
+    plain: Result<T, ParseEntryError>,
+    by_version: impl Fn(Version) -> Result<T, Refusal>,
+) -> bool {
+    let newer = by_version(Version::V2_0);
+    assert_eq!(newer.clone().map_err(ParseEntryError::from), plain, "{record:02X?}");
+    let reserved = channel_of_2_0_alone(record);
+    assert_eq!(by_version(Version::V1_5), reserved.map_or(newer, |channel| Err(Refusal::InvalidChannel(channel))), "{record:02X?}");
+    reserved.is_some()
+}
+
+#[test]
+fn entries_of_a_version() {
+    let mut reserved = 0;
+    each_answer(|bytes| {
+        let by_version = |version| Entry::parse_in(version, bytes);
+        reserved += usize::from(check_versions(bytes, Entry::parse(bytes), by_version));
+        let by_version = |version| GetSelEntry::parse_success_response_in(version, bytes);
+        reserved += usize::from(check_versions(record_bytes(bytes), GetSelEntry::parse_success_response(bytes), by_version));
+    });
+    assert!(reserved > 1000, "{reserved} records on channels that 1.5 alone reserves");
 }
 
 #[test]

@@ -7,12 +7,12 @@ use ipmi_sel::capture::{
     bytes_that_count, find, record_bytes, refusal, refused_length, refused_slots, same_entry, walk, AnswerKind, RefusedRecord, Verdict,
     Walk, WalkError,
 };
-use ipmi_sel::connection::{Channel, ChannelNumber, LogicalUnit, NotEnoughData};
+use ipmi_sel::connection::{Channel, ChannelNumber, LogicalUnit, NotEnoughData, Version};
 use ipmi_sel::nonmax::NonMaxU8;
 use ipmi_sel::storage::sdr::{decode_event, EventData, EventData2Type, EventData3Type, SensorType, TypedData, TypedData2, TypedData3};
 use ipmi_sel::storage::sel::{
     ClearSel, Entry, ErasureProgress, EventDirection, EventGenerator, EventMessageRevision, GetSelEntry, GetSelInfo, ParseEntryError,
-    RecordId, ReserveSel, SelAllocInfo, SelCommand, SelGetAllocInfo,
+    RecordId, ReserveSel, SelAllocInfo, SelCommand, SelEntryInfo, SelGetAllocInfo,
 };
 use ipmi_sel::storage::{AllocInfo, Timestamp};
 use ipmi_sel::{Refusal, Request};
@@ -35,6 +35,28 @@ fn value(byte: u8) -> NonMaxU8 {
 
 fn numbered(number: u8) -> Channel {
     Channel::Numbered(ChannelNumber::new(NonZeroU8::new(number).unwrap()).unwrap())
+}
+
+/// What both versions say, where `parse` says this: 2.0 the same, and 1.5 too, but for a system record on a channel that it alone reserves.
+fn check_versions<T: PartialEq + fmt::Debug>(told: &Result<T, ParseEntryError>, v1_5: Result<T, Refusal>, v2_0: Result<T, Refusal>) {
+    assert_eq!(&v2_0.map_err(ParseEntryError::from), told);
+    match v1_5 {
+        Err(Refusal::InvalidChannel(0x8..=0xB)) => assert!(told.is_ok()),
+        same => assert_eq!(&same.map_err(ParseEntryError::from), told),
+    }
+}
+
+fn parsed(data: &[u8]) -> Result<Entry, ParseEntryError> {
+    let entry = Entry::parse(data);
+    check_versions(&entry, Entry::parse_in(Version::V1_5, data), Entry::parse_in(Version::V2_0, data));
+    entry
+}
+
+fn get_parsed(data: &[u8]) -> Result<SelEntryInfo, ParseEntryError> {
+    let by_version = |version| GetSelEntry::parse_success_response_in(version, data);
+    let info = GetSelEntry::parse_success_response(data);
+    check_versions(&info, by_version(Version::V1_5), by_version(Version::V2_0));
+    info
 }
 
 struct EntryText(Entry);
@@ -70,17 +92,17 @@ fn a_system_record() {
             data3_type: EventData3Type::TriggerThreshold(value(85)),
         },
     };
-    assert_eq!(Entry::parse(&RECORD), Ok(entry.clone()));
-    assert_eq!(Entry::parse(&[&RECORD[..], &[0xFF; 9]].concat()), Ok(entry.clone()));
+    assert_eq!(parsed(&RECORD), Ok(entry.clone()));
+    assert_eq!(parsed(&[&RECORD[..], &[0xFF; 9]].concat()), Ok(entry.clone()));
     assert_eq!(EntryText(entry).to_string(), "Upper Critical - going high");
 
-    let Ok(Entry::System { event_direction, event_type, .. }) = Entry::parse(&changed(RECORD, 12, 0xEF)) else { panic!() };
+    let Ok(Entry::System { event_direction, event_type, .. }) = parsed(&changed(RECORD, 12, 0xEF)) else { panic!() };
     assert_eq!((event_direction, event_type), (EventDirection::Deassert, 0x6F));
 }
 
 /// Both by the bytes and by `==`.
 fn same(one: &[u8], other: &[u8]) -> bool {
-    let entries = Entry::parse(one).unwrap() == Entry::parse(other).unwrap();
+    let entries = parsed(one).unwrap() == parsed(other).unwrap();
     assert_eq!(same_entry(one, other), Ok(entries));
     entries
 }
@@ -142,37 +164,106 @@ fn oem_records() {
         manufacturer_id: 0x80C0AB,
         data: [1, 2, 3, 4, 5, 6],
     };
-    assert_eq!(Entry::parse(&record), Ok(timed.clone()));
+    assert_eq!(parsed(&record), Ok(timed.clone()));
     assert_eq!(EntryText(timed).to_string(), "");
 
     let plain =
         Entry::OemNotTimestamped { record_id: record_id(2), ty: 0xE0, data: [0xE8, 0x03, 0x00, 0x00, 0xAB, 0xC0, 0x80, 1, 2, 3, 4, 5, 6] };
-    assert_eq!(Entry::parse(&changed(record, 2, 0xE0)), Ok(plain));
+    assert_eq!(parsed(&changed(record, 2, 0xE0)), Ok(plain));
 }
 
 #[test]
 fn refused_records() {
-    assert_eq!(Entry::parse(&RECORD[..15]), Err(ParseEntryError::NotEnoughData));
-    assert_eq!(Entry::parse(&changed(RECORD, 2, 0x03)), Err(ParseEntryError::UnknownRecordType(0x03)));
-    assert_eq!(Entry::parse(&changed(RECORD, 2, 0xBF)), Err(ParseEntryError::UnknownRecordType(0xBF)));
-    assert_eq!(Entry::parse(&changed(RECORD, 8, 0xC0)), Err(ParseEntryError::InvalidChannel(12)));
+    assert_eq!(parsed(&RECORD[..15]), Err(ParseEntryError::NotEnoughData));
+    assert_eq!(parsed(&changed(RECORD, 2, 0x03)), Err(ParseEntryError::UnknownRecordType(0x03)));
+    assert_eq!(parsed(&changed(RECORD, 2, 0xBF)), Err(ParseEntryError::UnknownRecordType(0xBF)));
+    assert_eq!(parsed(&changed(RECORD, 8, 0xC0)), Err(ParseEntryError::InvalidChannel(12)));
     // Length first, then type, then channel.
-    assert_eq!(Entry::parse(&changed(RECORD, 2, 0x03)[..15]), Err(ParseEntryError::NotEnoughData));
-    assert_eq!(Entry::parse(&changed(changed(RECORD, 2, 0x03), 8, 0xC0)), Err(ParseEntryError::UnknownRecordType(0x03)));
+    assert_eq!(parsed(&changed(RECORD, 2, 0x03)[..15]), Err(ParseEntryError::NotEnoughData));
+    assert_eq!(parsed(&changed(changed(RECORD, 2, 0x03), 8, 0xC0)), Err(ParseEntryError::UnknownRecordType(0x03)));
 }
 
 #[test]
 fn get_entry() {
     let answer = [&[0xFF, 0xFF], &RECORD[..]].concat();
-    let info = GetSelEntry::parse_success_response(&answer).unwrap();
-    assert_eq!((info.next_entry, info.entry), (RecordId::LAST, Entry::parse(&RECORD).unwrap()));
-    assert_eq!(GetSelEntry::parse_success_response(&answer[..17]), Err(ParseEntryError::NotEnoughData));
-    assert_eq!(GetSelEntry::parse_success_response(&changed([0; 18], 4, 0x01)), Err(ParseEntryError::UnknownRecordType(0x01)));
+    let info = get_parsed(&answer).unwrap();
+    assert_eq!((info.next_entry, info.entry), (RecordId::LAST, parsed(&RECORD).unwrap()));
+    assert_eq!(get_parsed(&answer[..17]), Err(ParseEntryError::NotEnoughData));
+    assert_eq!(get_parsed(&changed([0; 18], 4, 0x01)), Err(ParseEntryError::UnknownRecordType(0x01)));
 
     assert_eq!(record_bytes(&answer), RECORD);
     assert_eq!(record_bytes(&[&answer[..], &[7]].concat()), RECORD);
     assert_eq!(record_bytes(&answer[..17]), []);
     assert_eq!(record_bytes(&[]), []);
+}
+
+/// Of a record by itself, and in a get-entry answer.
+fn entry_of(version: Version, record: &[u8; 16]) -> Result<Entry, Refusal> {
+    let entry = Entry::parse_in(version, record);
+    let answer = [&[0x34, 0x12], &record[..], &[0xFF]].concat();
+    let info = entry.clone().map(|entry| SelEntryInfo { next_entry: record_id(0x1234), entry });
+    assert_eq!(GetSelEntry::parse_success_response_in(version, &answer), info);
+    entry
+}
+
+/// The entry of RECORD, were it made by another.
+fn entry_by(generator: EventGenerator) -> Entry {
+    let mut entry = Entry::parse(&RECORD).unwrap();
+    if let Entry::System { generator_id, .. } = &mut entry {
+        *generator_id = generator;
+    }
+    entry
+}
+
+#[test]
+fn channels_of_a_version() {
+    for (version, reserved) in [(Version::V1_5, 0x8..=0xD), (Version::V2_0, 0xC..=0xD)] {
+        for number in 0x0..=0xF {
+            let valid = if reserved.contains(&number) { None } else { Channel::new(number) };
+            let channel = valid.ok_or(Refusal::InvalidChannel(number));
+            let by_address = |channel_number| EventGenerator::RqSAAndLun { i2c_addr: 0x10, channel_number, lun: LogicalUnit::Two };
+            let by_software = |channel_number| EventGenerator::SoftwareId { software_id: 0x10, channel_number };
+            let record = changed(RECORD, 8, number << 4 | 0b0110);
+            assert_eq!(entry_of(version, &record), channel.map(by_address).map(entry_by));
+            assert_eq!(entry_of(version, &changed(record, 7, 0x21)), channel.map(by_software).map(entry_by));
+            // No channel is tested in an OEM record.
+            for ty in [0xC0, 0xDF, 0xE0, 0xFF] {
+                let oem = changed(record, 2, ty);
+                assert_eq!(entry_of(version, &oem), Ok(parsed(&oem).unwrap()));
+            }
+        }
+    }
+}
+
+#[test]
+fn refused_by_a_version() {
+    let answer = [&[0xFF, 0xFF], &RECORD[..]].concat();
+    // Length first, then type, then channel.
+    let (unknown, on_9h) = (changed(changed(RECORD, 2, 0x03), 8, 0x90), changed(RECORD, 8, 0x90));
+    for version in [Version::V1_5, Version::V2_0] {
+        for short in [&[][..], &RECORD[..15], &unknown[..15], &on_9h[..15]] {
+            assert_eq!(Entry::parse_in(version, short), Err(Refusal::TooShort { needed: 16 }));
+        }
+        for short in [&[][..], &answer[..2], &answer[..17]] {
+            assert_eq!(GetSelEntry::parse_success_response_in(version, short), Err(Refusal::TooShort { needed: 18 }));
+        }
+        assert_eq!(entry_of(version, &unknown), Err(Refusal::UnknownRecordType(0x03)));
+        assert_eq!(entry_of(version, &changed(RECORD, 8, 0xD0)), Err(Refusal::InvalidChannel(0xD)));
+    }
+    assert_eq!(entry_of(Version::V1_5, &on_9h), Err(Refusal::InvalidChannel(0x9)));
+    assert_eq!(ParseEntryError::from(Refusal::InvalidChannel(0x9)), ParseEntryError::InvalidChannel(0x9));
+}
+
+#[test]
+fn versions() {
+    for byte in 0..=u8::MAX {
+        let expected = match byte {
+            0x51 => Some(Version::V1_5),
+            0x02 => Some(Version::V2_0),
+            _ => None,
+        };
+        assert_eq!(Version::from_device_id(byte), expected, "{byte:02X}");
+    }
 }
 
 #[test]

@@ -43,7 +43,7 @@ rest c =
     let answers = r .0 .0 .0 .0 .0 .0 .0 .0 .0 in
     rw (ne-eqb _ _ (answers .0 .0 .0 .0 .0 .1), ne-eqb _ _ (answers .0 .0 .0 .0 .1), ne-eqb _ _ (answers .0 .0 .0 .1), ne-eqb _ _ (answers .0 .0 .1), ne-eqb _ _ (answers .0 .1), ne-eqb _ _ (answers .1))
     (rw (ne-eqb _ _ (r .0 .0 .0 .0 .0 .0 .0 .0 .1), ne-eqb _ _ (r .0 .0 .0 .0 .0 .0 .0 .1), ne-eqb _ _ (r .0 .0 .0 .0 .0 .0 .1), ne-eqb _ _ (r .0 .0 .0 .0 .0 .1), ne-eqb _ _ (r .0 .0 .0 .0 .1), ne-eqb _ _ (r .0 .0 .0 .1), ne-eqb _ _ (r .0 .0 .1), ne-eqb _ _ (r .0 .1), ne-eqb _ _ (r .1))
-    (rw (ne-eqb letter (code "D") (λ e. omega arith), ne-eqb letter (code "L") (λ e. omega arith), ne-eqb letter (code "V") (λ e. omega arith))))
+    (rw (ne-eqb letter (code "D") (λ e. omega arith), ne-eqb letter (code "E") (λ e. omega arith), ne-eqb letter (code "G") (λ e. omega arith), ne-eqb letter (code "L") (λ e. omega arith), ne-eqb letter (code "V") (λ e. omega arith))))
 
 pub kind-of-spec : {M : Type 1} → statement M
 unfolding kindOf

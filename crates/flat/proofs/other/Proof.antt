@@ -23,13 +23,13 @@ returns-6 : tie.Need-returns-6
 returns-6 c = rw (c .before .before .before .before .enum-told6 .given .1) (search needs)
 
 returns-7 : tie.Need-returns-7
-returns-7 c = rw (c .before .enum-told7 .given .1) (length-gives _ _ (c .length .ensures))
+returns-7 c = rw (c .before .before .before .before .enum-told7 .given .1) (search needs)
 
 returns-8 : tie.Need-returns-8
 returns-8 c = rw (c .before .before .before .before .enum-told8 .given .1) (search needs)
 
 returns-9 : tie.Need-returns-9
-returns-9 c = rw (c .before .before .before .before .enum-told9 .given .1) (search needs)
+returns-9 c = rw (c .before .enum-told9 .given .1) (length-gives _ _ (c .length .ensures))
 
 returns-10 : tie.Need-returns-10
 returns-10 c = rw (c .before .before .before .before .enum-told10 .given .1) (search needs)
@@ -40,10 +40,20 @@ returns-11 c = rw (c .before .before .before .before .enum-told11 .given .1) (se
 returns-12 : tie.Need-returns-12
 returns-12 c = rw (c .before .before .before .before .enum-told12 .given .1) (search needs)
 
+returns-13 : tie.Need-returns-13
+returns-13 c = rw (c .before .before .before .before .enum-told13 .given .1) (search needs)
+
+returns-14 : tie.Need-returns-14
+returns-14 c = rw (c .before .before .before .before .enum-told14 .given .1) (search needs)
+
 pub other-spec : {M : Type 1} → statement M
 other-spec =
     tie.close
     (tie.spec
+    (λ c. search needs)
+    (λ c κs. search needs)
+    (λ c. search needs)
+    (λ c κs. search needs)
     (λ c. search needs)
     (λ c κs. search needs)
     (λ c. search needs)
@@ -80,14 +90,18 @@ other-spec =
     returns-5
     (λ c. search needs)
     returns-6
+    (λ c. search needs)
     returns-7
     (λ c. search needs)
     returns-8
-    (λ c. search needs)
     returns-9
     (λ c. search needs)
     returns-10
     (λ c. search needs)
     returns-11
     (λ c. search needs)
-    returns-12)
+    returns-12
+    (λ c. search needs)
+    returns-13
+    (λ c. search needs)
+    returns-14)

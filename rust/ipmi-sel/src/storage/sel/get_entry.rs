@@ -3,9 +3,11 @@
 use std::num::NonZeroU16;
 
 use super::{Entry, ParseEntryError, RecordId};
+use crate::connection::Version;
+use crate::ffi;
 use crate::flat::Flat;
 use crate::nonmax::NonMaxU8;
-use crate::Request;
+use crate::{Refusal, Request};
 
 /// Asks for a whole record.
 #[derive(Clone, Debug, PartialEq)]
@@ -35,6 +37,20 @@ impl GetEntry {
 
     pub fn parse_success_response(data: &[u8]) -> Result<EntryInfo, ParseEntryError> {
         let mut flat = Flat::decode(b'g', data)?;
-        Ok(EntryInfo { next_entry: RecordId::new_raw(flat.u16()), entry: Entry::decoded(&mut flat) })
+        Ok(EntryInfo::decoded(&mut flat))
+    }
+
+    /// As [`parse_success_response`](Self::parse_success_response), which is the 2.0 case, by the channels of a version; a record is refused as by
+    /// [`Entry::parse_in`]. Not in ipmi-rs-core.
+    pub fn parse_success_response_in(version: Version, data: &[u8]) -> Result<EntryInfo, Refusal> {
+        let mut flat = Flat::written(|out| ffi::get_entry_of(version.number(), data, out)).map_err(Refusal::told)?;
+        Ok(EntryInfo::decoded(&mut flat))
+    }
+}
+
+impl EntryInfo {
+    #[inline]
+    fn decoded(flat: &mut Flat) -> Self {
+        Self { next_entry: RecordId::new_raw(flat.u16()), entry: Entry::decoded(flat) }
     }
 }

@@ -9,7 +9,7 @@ use borrow.Author.Tests.{eq-eqb, ne-eqb, le-leb, lt-leb}
 use lib.Dec.{eqb, leb}
 use Rattle.field.specs.Handed.{Answers}
 use Rattle.connection.specs.Channel.{channelAt, channelHands, channelOf, numberOf, validChannel}
-use Rattle.connection.specs.Version.{isVersion, lastNumbered, validBy, validChannel15, validIn, versionOf}
+use Rattle.connection.specs.Version.{isVersion, lastNumbered, validBy, validChannel15, validIn, validTo, versionOf}
 use Rattle.connection.specs.Versions.{Inside, NoVersion, Versions}
 use Rattle.connection.specs.declared.Channel.{Channel}
 use Rattle.connection.specs.declared.NewChannel.{NewChannel}
@@ -17,22 +17,15 @@ use Rattle.connection.specs.declared.NewVersion.{NewVersion}
 use Rattle.connection.specs.declared.Version.{Version}
 use Rattle.connection.proofs.Back.{channel-answer}
 
--- both sets are this one, by the last numbered channel
-pub valid-is : (v : Version) (n : ℕ) → validIn v n ≡ (leb n (lastNumbered v) || eqb n 0xE || eqb n 0xF)
-unfolding validChannel validChannel15
-valid-is Version.V1_5 n = refl
-valid-is Version.V2_0 n = refl
+-- each version's set, by its last numbered channel
+pub valid-to : (v : Version) → validTo (lastNumbered v) ≡ validIn v
+unfolding validTo validChannel validChannel15
+valid-to Version.V1_5 = refl
+valid-to Version.V2_0 = refl
 
--- what the test finds
-module _ (v : Version) (n last : ℕ) (e : last ≡ lastNumbered v) where
-  pub numbered : n ≤ last → true ≡ validIn v n
-  numbered h = sym (valid-is v n ∙ rw (← e, le-leb n last h))
-
-  pub current : last < n → n ≡ 0xE → true ≡ validIn v n
-  current h o = sym (valid-is v n ∙ rw (← e, lt-leb n last h, eq-eqb n 0xE o))
-
-  pub others : last < n → (n ≡ 0xE → ⊥) → eqb n 0xF ≡ validIn v n
-  others h o = sym (valid-is v n ∙ rw (← e, lt-leb n last h, ne-eqb n 0xE o))
+-- the test, of a version
+pub tested : (v : Version) (n : ℕ) {last : ℕ} {t : Bool} → last ≡ lastNumbered v → t ≡ validTo last n → t ≡ validIn v n
+tested v n l e = e ∙ rw l (ap (λ (valid : ℕ → Bool). valid n) (valid-to v))
 
 -- from the test and the channel to the answer, over any set of channels
 module _ (valid : ℕ → Bool) (n : ℕ) where

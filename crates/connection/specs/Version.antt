@@ -13,6 +13,10 @@ use Rattle.connection.specs.declared.Version.{Version}
 unfoldable pub validChannel15 : ℕ → Bool
 validChannel15 n = leb n 0x7 || eqb n 0xE || eqb n 0xF
 
+-- any such set, by its last numbered channel
+unfoldable pub validTo : ℕ → ℕ → Bool
+validTo last n = leb n last || eqb n 0xE || eqb n 0xF
+
 -- whether a number names a version, and the valid channels of the one that it names
 abbrev pub isVersion : ℕ → Bool
 isVersion b = eqb b 0x51 || eqb b 0x02
@@ -31,7 +35,7 @@ abbrev pub validIn : Version → ℕ → Bool
 validIn Version.V1_5 = validChannel15
 validIn Version.V2_0 = validChannel
 
--- the last numbered channel
+-- the last numbered channel of a version
 abbrev pub lastNumbered : Version → ℕ
 lastNumbered Version.V1_5 = 0x7
 lastNumbered Version.V2_0 = 0xB

@@ -3,7 +3,7 @@ ghost use mathlib.Core.Path.{_≡_};
 ghost use Rattle.field.specs.Handed.{Answers};
 ghost use Rattle.connection.specs.Channel.{channelAt, channelHands, channelNumber, channelOf, numberOf, validChannel};
 ghost use Rattle.connection.specs.Unit.{unitNamed, unitNumber, unitOf};
-ghost use Rattle.connection.specs.Version.{lastNumbered, validIn, versionOf};
+ghost use Rattle.connection.specs.Version.{lastNumbered, validIn, validTo, versionOf};
 
 // The versions of the standard that are told apart: they differ in the valid channels.
 pub enum Version {
@@ -29,20 +29,8 @@ impl Version {
         }
     }
 
-    // Whether a number names a channel under the version: the one test of it.
-    pub fn has(self, value: u8) -> bool
-        ensures { λ r. ⌜ r ≡ validIn self value ⌝ }
-    {
-        if value <= self.last_numbered() {
-            return true;
-        }
-        if value == 0xE {
-            return true;
-        }
-        value == 0xF
-    }
-
-    fn last_numbered(self) -> u8
+    // The last numbered channel, which is all that the versions differ in.
+    pub fn last_numbered(self) -> u8
         ensures { λ r. ⌜ r ≡ lastNumbered self ⌝ }
     {
         match self {
@@ -69,11 +57,17 @@ pub enum NewChannel {
     Invalid(u8),
 }
 
-// Whether a number names a channel of 2.0.
-pub fn is_channel(value: u8) -> bool
-    ensures { λ r. ⌜ r ≡ validChannel value ⌝ }
+// Whether a number names a channel, where the numbered ones end at `last`: the one test of it.
+pub fn is_channel_to(last: u8, value: u8) -> bool
+    ensures { λ r. ⌜ r ≡ validTo last value ⌝ }
 {
-    Version::V2_0.has(value)
+    if value <= last {
+        return true;
+    }
+    if value == 0xE {
+        return true;
+    }
+    value == 0xF
 }
 
 impl Channel {
@@ -86,7 +80,7 @@ impl Channel {
     pub fn new_in(version: Version, value: u8) -> NewChannel
         ensures { λ r. ⌜ Answers r (channelOf (validIn version) value) numberOf (channelHands (validIn version) value) ⌝ }
     {
-        if version.has(value) {
+        if is_channel_to(version.last_numbered(), value) {
             return NewChannel::Valid(Channel::named(value));
         }
         NewChannel::Invalid(value)

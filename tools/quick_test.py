@@ -115,13 +115,14 @@ ROOMS = {
     'event_offset/specs/Event': ['eventRoom = 5'],
     'event_data/specs/DataText': ['dataRoom = 4'],
     'storage/specs/Time': ['timeRoom = 3'],
+    'connection/specs/Version': ['ipmi15 = 0x51', 'ipmi20 = 0x02'],
     'flat/specs/Sizes': ['flatRoom = 2', 'requestRoom = 1'],
     'field/specs/Lengths': ['entryBytes = 16', 'getEntryBytes = 18', 'infoBytes = 14', 'allocationBytes = 9', 'reserveBytes = 2', 'clearBytes = 1'],
 }
 EXPORTS = {
     **GOOD,
     **{f'crates/{file}.antt': '\n\n'.join(f'abbrev pub {x.split()[0]} : ℕ\n{x}' for x in lines) + '\n' for file, lines in ROOMS.items()},
-    'crates.txt': 'a:\nabi:\nevent_offset:\nevent_data:\nstorage:\nflat:\nfield:\n',
+    'crates.txt': 'a:\nabi:\nevent_offset:\nevent_data:\nstorage:\nconnection:\nflat:\nfield:\n',
     PAGE: STATED + STATED.replace('## a', '## abi').replace('`clear`', '`sel_text`, `sel_length`'),
     ABI: '''// Answers.
 #[repr(C)]
@@ -152,10 +153,13 @@ pub extern "C" fn sel_length(kind: u8, len: usize) -> u32
 }
 ''',
     'crates/field/specs/Handed.antt': ''.join(f'{x} = handed {n} []\n' for x, n in (
-        ('notEnoughData', 1), ('unknownType t', 2), ('invalidChannel n', 3), ('noRoom n', 4), ('badCapture', 5), ('tooLong', 8), ('noReservation', 9))),
+        ('notEnoughData', 1), ('unknownType t', 2), ('invalidChannel n', 3), ('noRoom n', 4), ('badCapture', 5), ('tooLong', 8), ('noReservation', 9),
+        ('unnamedVersion', 11))),
+    RUST + 'connection.rs': 'const IPMI_1_5: u8 = 0x51;\nconst IPMI_2_0: u8 = 0x02;\n',
     RUST + 'refusal.rs': ''.join(f'const {x}: u32 = {n};\n' for x, n in (
         ('TOO_SHORT', 1), ('UNKNOWN_TYPE', 2), ('INVALID_CHANNEL', 3), ('TOO_LONG', 8), ('NO_RESERVATION', 9))),
-    HEADER: '''/* 0 accepted, 1 too short, 2 unknown record type, 3 invalid channel, 4 no room, 5 bad capture, 8 too long, 9 a reservation of 0; 255.
+    HEADER: '''/* 0 accepted, 1 too short, 2 unknown record type, 3 invalid channel, 4 no room, 5 bad capture, 8 too long, 9 a reservation of 0,
+ * 11 no such version; 255.
  * A record of the log, 16 bytes or more: 1 with 16 under 16 bytes; 2 with the type. 1 with 18 under 18 bytes; then 2 and 3 as sel_entry.
  * 1 with 9 under 9 bytes; then 4. 1 with 14 under 14 bytes, 8 over 14. 1 with 2 under 2 bytes, then 9. 1 with 1 where it is empty.
  * value: 16 where it is 1, the record type where it is 2. Refused: under 16 for e, under 18 for g, under 14 for i, under 9 for a, under 2 for r,
@@ -182,6 +186,8 @@ typedef struct SelAnswer {
 #define SEL_TIME_TEXT 3
 #define SEL_FLAT 2
 #define SEL_REQUEST 1
+#define SEL_IPMI_1_5 0x51
+#define SEL_IPMI_2_0 0x02
 
 /* At most SEL_EVENT_TEXT (5) bytes. */
 SelAnswer sel_text(const uint16_t *starts, size_t starts_length,
@@ -271,6 +277,11 @@ CHANGED = [
     (HEADER, '1 with 18', '1 with 16', 'include/sel.h does not say: 1 with 18 under 18 bytes'),
     (HEADER, '9 a reservation', '10 a reservation', 'include/sel.h does not say: 0 accepted, 1 too short'),
     ('crates/field/specs/Handed.antt', 'tooLong = handed 8', 'tooLong = handed 7', 'refusal.rs: TOO_LONG is 8, and tooLong is 7'),
+    (HEADER, '11 no such', '10 no such', 'include/sel.h does not say: 0 accepted, 1 too short'),
+    (HEADER, 'SEL_IPMI_1_5 0x51', 'SEL_IPMI_1_5 0x15', 'SEL_IPMI_1_5 is 0x15, and ipmi15 is 0x51'),
+    (HEADER, '#define SEL_IPMI_2_0 0x02\n', '', 'SEL_IPMI_2_0 is no number, and ipmi20 is 0x02'),
+    (RUST + 'connection.rs', 'IPMI_2_0: u8 = 0x02', 'IPMI_2_0: u8 = 0x20', 'connection.rs: IPMI_2_0 is 0x20, and ipmi20 is 0x02'),
+    ('crates/connection/specs/Version.antt', 'ipmi15 = 0x51', 'ipmi15 = 0x50', 'connection.rs: IPMI_1_5 is 0x51, and ipmi15 is 0x50'),
     (RUST + 'refusal.rs', 'NO_RESERVATION: u32 = 9', 'NO_RESERVATION: u32 = 1', 'refusal.rs: NO_RESERVATION is 1, and noReservation is 9'),
 ]
 

@@ -33,10 +33,13 @@ SAID = [
 # The numbers of refusals: what the header says of them, and the constants of Rust, with the names of the definitions.
 NUMBERS = 'crates/field/specs/Handed.antt'
 NAMED = ('0 accepted, {notEnoughData} too short, {unknownType} unknown record type, {invalidChannel} invalid channel, {noRoom} no room, {badCapture} bad capture, '
-         '{tooLong} too long, {noReservation} a reservation of 0;')
+         '{tooLong} too long, {noReservation} a reservation of 0, {unnamedVersion} no such version;')
 CONSTANTS = [
     ('TOO_SHORT', 'notEnoughData'), ('UNKNOWN_TYPE', 'unknownType'), ('INVALID_CHANNEL', 'invalidChannel'), ('TOO_LONG', 'tooLong'), ('NO_RESERVATION', 'noReservation'),
 ]
+# The numbers of the versions: the header's macro, the constant of Rust, the definition.
+VERSIONS = [('SEL_IPMI_1_5', 'IPMI_1_5', 'ipmi15'), ('SEL_IPMI_2_0', 'IPMI_2_0', 'ipmi20')]
+VERSION = 'crates/connection/specs/Version.antt'
 WIDTH = {'u8': 1, 'u16': 2, 'u32': 4, 'usize': 8}
 MOST_RESULT = 16  # bytes: a result over these is handed back in another way on each machine
 
@@ -116,6 +119,7 @@ def missing(file, found, must):
 
 def header_faults(root, must):
     text = re.sub(rf'(?m)^#define (?:{"|".join(s[0] for s in SIZES)}) \d+ *$', '', bare(root / HEADER))
+    text = re.sub(rf'(?m)^#define (?:{"|".join(v[0] for v in VERSIONS)}) 0x[0-9A-F]{{2}} *$', '', text)
     frame = r'#ifndef SEL_H#define SEL_H(?:#include<[\w.]+>)*#ifdef __cplusplus extern"C"\{#endif (.*)#ifdef __cplusplus\}#endif#endif'
     [(body,)] = read(frame, tight(text), HEADER)
     found = read(r'(typedef struct \w+\{[^{}]*\}(?=\w)|[\w ]+ (?=\w+\())(\w+)(\([^()]*\))?;', body, HEADER)
@@ -169,6 +173,17 @@ def number_faults(root):
                 for name, definition in CONSTANTS if constants.get(name) != numbers[definition])
 
 
+def version_faults(root):
+    """The numbers of the versions, in the header and in Rust, are those of the definition."""
+    for macro, constant, name in VERSIONS:
+        found = re.findall(rf'(?m)^{name} = (0x[0-9A-F]{{2}})$', (root / VERSION).read_text())
+        said = {
+            f'{HEADER}: {macro}': re.findall(rf'(?m)^#define {macro} (\w+) *$', bare(root / HEADER)),
+            f'{RUST}/connection.rs: {constant}': re.findall(rf'(?m)^const {constant}: u8 = (\w+);$', bare(root / RUST / 'connection.rs')),
+        }
+        yield from (f'{at} is {" and ".join(numbers) or "no number"}, and {name} is {" and ".join(found)}' for at, numbers in said.items() if numbers != found or len(found) != 1)
+
+
 def signature_faults(root):
     if not (root / 'crates/abi').is_dir():
         return
@@ -178,5 +193,6 @@ def signature_faults(root):
         yield from ffi_faults(root, structs, functions, calls)
         yield from size_faults(root)
         yield from number_faults(root)
+        yield from version_faults(root)
     except (OSError, ValueError, KeyError) as fault:  # a file that is not there, or not of the form that is read here
         yield f'signatures: {fault}'

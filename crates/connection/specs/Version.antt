@@ -17,18 +17,25 @@ validChannel15 n = leb n 0x7 || eqb n 0xE || eqb n 0xF
 unfoldable pub validTo : ℕ → ℕ → Bool
 validTo last n = leb n last || eqb n 0xE || eqb n 0xF
 
+-- the numbers of the versions
+abbrev pub ipmi15 : ℕ
+ipmi15 = 0x51
+
+abbrev pub ipmi20 : ℕ
+ipmi20 = 0x02
+
 -- whether a number names a version, and the valid channels of the one that it names
 abbrev pub isVersion : ℕ → Bool
-isVersion b = eqb b 0x51 || eqb b 0x02
+isVersion b = eqb b ipmi15 || eqb b ipmi20
 
 abbrev pub validBy : ℕ → ℕ → Bool
-validBy b = if eqb b 0x51 then validChannel15 else validChannel
+validBy b = if eqb b ipmi15 then validChannel15 else validChannel
 
 -- the same, as the code's own enum has them
 unfoldable pub versionOf : ℕ → NewVersion
 versionOf b =
-    if eqb b 0x51 then NewVersion.Named Version.V1_5 else
-    if eqb b 0x02 then NewVersion.Named Version.V2_0 else
+    if eqb b ipmi15 then NewVersion.Named Version.V1_5 else
+    if eqb b ipmi20 then NewVersion.Named Version.V2_0 else
     NewVersion.Unnamed
 
 abbrev pub validIn : Version → ℕ → Bool

@@ -15,6 +15,10 @@ pub use ipmi_rs_core::connection::{
 #[derive(Debug, Clone, Copy, PartialEq)]
 pub struct NotEnoughData;
 
+// The numbers that Get Device ID gives the versions, and that the library takes.
+const IPMI_1_5: u8 = 0x51;
+const IPMI_2_0: u8 = 0x02;
+
 /// The version of IPMI that a server follows, and with it the channels that a record may name: 1.5 reserves 8h to Dh, and 2.0 Ch and Dh alone.
 /// Not in ipmi-rs-core, which goes by 2.0.
 #[derive(Debug, Clone, Copy, PartialEq, Eq)]
@@ -27,14 +31,18 @@ impl Version {
     /// Of the IPMI version byte of the server's Get Device ID answer: 51h or 02h, and `None` for any other. Never of that of Get SEL Info, which is
     /// 51h on servers of 2.0 too.
     pub fn from_device_id(byte: u8) -> Option<Self> {
-        [Self::V1_5, Self::V2_0].into_iter().find(|version| version.number() == byte)
+        match byte {
+            IPMI_1_5 => Some(Self::V1_5),
+            IPMI_2_0 => Some(Self::V2_0),
+            _ => None,
+        }
     }
 
     /// The number that the library takes; it refuses neither.
     pub(crate) fn number(self) -> u8 {
         match self {
-            Self::V1_5 => 0x51,
-            Self::V2_0 => 0x02,
+            Self::V1_5 => IPMI_1_5,
+            Self::V2_0 => IPMI_2_0,
         }
     }
 }

@@ -8,6 +8,7 @@ use native.Mathlib.Decide.{decLe, ℕ-discrete}
 use borrow.Author.Tests.{eq-eqb, ne-eqb, le-leb, lt-leb}
 use lib.Dec.{eqb, leb}
 use Rattle.field.specs.Handed.{Answers}
+use Rattle.field.proofs.Choices.{clash}
 use Rattle.connection.specs.Channel.{channelAt, channelHands, channelOf, numberOf, validChannel}
 use Rattle.connection.specs.Version.{isVersion, lastNumbered, validBy, validChannel15, validIn, validTo, versionOf}
 use Rattle.connection.specs.Versions.{Inside, NoVersion, Versions}
@@ -37,9 +38,6 @@ module _ (valid : ℕ → Bool) (n : ℕ) where
   pub not-held : {t : Bool} → t ≡ valid n → t ≡ false → Answers (NewChannel.Invalid n) (channelOf valid n) numberOf (channelHands valid n)
   unfolding channelOf
   not-held e t = channel-answer valid n (rw (← e, t))
-
-clash : {b : Bool} → b ≡ true → b ≡ false → ⊥
-clash p q = let z : _≡_ {A = ℕ} 0 1 = cc in omega arith
 
 -- a set whose numbered channels end at `last` lacks, up to Fh, those behind it up to Dh
 reserved : (last n : ℕ) → last < 0xD → n ≤ 0xF → ((leb n last || eqb n 0xE || eqb n 0xF) ≡ false) ↔ ((last < n) × (n ≤ 0xD))

@@ -2,6 +2,7 @@ pub mod Below
 pub mod Bytes
 pub mod Choices
 pub mod MappedBack
+pub mod Octets
 pub mod Parts
 pub mod Past
 pub mod Placed

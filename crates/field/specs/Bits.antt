@@ -9,10 +9,13 @@ use lib.ListN.{length, getD, take, drop}
 abbrev pub byteAt : List ℕ → ℕ → ℕ
 byteAt s k = getD s k 0
 
--- n numbers that are bytes
+-- numbers that are bytes, as a slice has them; and n of them
+abbrev pub Octets : List ℕ → Type 0
+Octets s = (k : ℕ) → byteAt s k < 256
+
 pub record Bytes (n : ℕ) (s : List ℕ) : Type 0 where
   pub long : length s ≡ n
-  pub each : (k : ℕ) → byteAt s k < 256
+  pub each : Octets s
 
 -- bits hi to lo of a byte, as a number: b / 2 ^ lo % 2 ^ (hi + 1 - lo), written so that it computes at lo = 0 too
 abbrev pub bits : ℕ → ℕ → ℕ → ℕ

@@ -30,6 +30,7 @@ ghost use mathlib.Core.List.{[], _∷_};
 ghost use Rattle.field.specs.Handed.{handed, ported};
 ghost use Rattle.flat_form.specs.Form.{Gives, refusal};
 ghost use Rattle.flat_record.specs.Records.{entryFlat, entryFlatOf, getEntryFlat, getEntryFlatOf};
+ghost use Rattle.flat_writer.specs.Written.{writtenFlat};
 ghost use Rattle.flat_answers.specs.Answers.{allocationFlat};
 ghost use Rattle.flat.specs.Kinds.{flatOf};
 ghost use Rattle.flat.specs.Lengths.{lengthSaid};
@@ -42,6 +43,14 @@ pub extern "C" fn sel_entry(data: &[u8], out: &mut [u8]) -> SelAnswer
     ensures { λ r. ⌜ Gives (entryFlat (now («data» .entry))) (now (out .entry)) r (now (out .exit)) ⌝ }
 {
     flat_record::entry(data, out)
+}
+
+// Writes the record of an entry by its flat bytes.
+#[no_mangle]
+pub extern "C" fn sel_write_entry(flat: &[u8], out: &mut [u8]) -> SelAnswer
+    ensures { λ r. ⌜ Gives (writtenFlat (now (flat .entry))) (now (out .entry)) r (now (out .exit)) ⌝ }
+{
+    flat_writer::entry(flat, out)
 }
 
 // The answer to Get SEL Entry.

@@ -5,10 +5,14 @@ use Rattle.connection.specs.Channel.{validChannel}
 use Rattle.storage.proofs.LogTimes.{log-times}
 use Rattle.typed_data.proofs.Readings.{readings}
 use Rattle.event_offset.proofs.SharedTexts.{shared-texts}
+use Rattle.record_writer.proofs.Trips.{round-trips}
+use Rattle.record_writer.proofs.Turned.{turned-away}
 use Rattle.answers.specs.RustAnswers.{asRust}
 use Rattle.answers.proofs.Ported.{ported-answers}
 use Rattle.answers.proofs.WhatWasShort.{lengths-needed, what-was-short}
 use Rattle.flat_record.proofs.Parsed.{flat-of-parsed}
+use Rattle.flat_writer.proofs.Answers.{flat-answers}
+use Rattle.flat_writer.proofs.Trips.{flat-trips}
 use Rattle.flat.proofs.Ported.{flat-ported}
 use Rattle.record_line.proofs.Bytes.{same-line}
 use Rattle.record_line.proofs.PrintedData.{printed-data}
@@ -59,4 +63,5 @@ claims =
       lengthsNeeded = lengths-needed;
       mappedBack = mapped-back;
       channels15 = channels-15;
+      writer = record { roundTrips = round-trips; turnedAway = turned-away; flatTrips = flat-trips; flatAnswers = flat-answers };
     }

@@ -11,3 +11,4 @@ pub mod Promises
 pub mod Requests
 pub mod SlotAnswer
 pub mod Texts
+pub mod Writer

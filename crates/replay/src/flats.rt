@@ -1,9 +1,10 @@
-// The letters that the crate `flat` answers: all but the walk's.
+// The letters that are answered with flat bytes: those of the crate `flat`, and M, which has its room in the question.
 use crate::say::say;
 use crate::say::say_bytes;
 use crate::say::say_refusal;
 use crate::say::up_to;
 use field::numbers::NO_QUESTION;
+use flat_form::SelAnswer;
 
 // More than the longest flat form has, an event's text of 70 bytes.
 const ROOM: usize = 80;
@@ -11,9 +12,18 @@ const ROOM: usize = 80;
 pub(crate) fn ask(letter: u8, data: &[u8]) {
     let mut out = [0xEEu8; ROOM];
     let answer = flat::flat(letter, data, &mut out);
+    say_answer(answer, &out, flat::is_text(flat::kind_of(letter)));
+}
+
+pub(crate) fn made(data: &[u8]) {
+    let mut out = [0xEEu8; ROOM];
+    let answer = flat_writer::made(data, &mut out);
+    say_answer(answer, &out, false);
+}
+
+fn say_answer(answer: SelAnswer, out: &[u8], text: bool) {
     if answer.number == 0 {
-        let text = flat::is_text(flat::kind_of(letter));
-        say_taken(up_to(&out, answer.value), text);
+        say_taken(up_to(out, answer.value), text);
         return;
     }
     if answer.number == NO_QUESTION {

@@ -40,6 +40,13 @@ fn records() -> Vec<Vec<u8>> {
     (0..256).map(record).collect()
 }
 
+/// The flat bytes of a record that is accepted.
+fn flat(record: &[u8]) -> Vec<u8> {
+    let answer = kinds::entry(record);
+    let digits = answer.strip_prefix("0 ").expect("an accepted record");
+    (0..digits.len()).step_by(2).map(|i| u8::from_str_radix(&digits[i..i + 2], 16).unwrap()).collect()
+}
+
 /// Event type, sensor type and offset of each of the 249 texts.
 fn events() -> Vec<Vec<u8>> {
     let generic = (1..=12).map(|event_type| (event_type, 0));
@@ -129,6 +136,37 @@ fn entries(records: &[Vec<u8>]) -> Vec<Row> {
         // No record is on a channel from 8h on, so that 1.5 demands what the Rust answers, which goes by 2.0.
         of_ours("entry of a version, 1.5, all 256".into(), records.to_vec(), 0, ours::entry_of_1_5, (kinds::entry, answers::entry_of_1_5)),
         of_ours("get entry of a version, 1.5, all 256".into(), get_entries, 0, ours::get_entry_of_1_5, (kinds::get_entry, answers::get_entry_of_1_5)),
+    ]
+}
+
+/// By SCOPE's places of a record: its sixteen bytes, from the flat bytes of an entry.
+fn written_answer(flat: &[u8]) -> String {
+    let value = |kind: usize| if flat[kind] == 0 { 0xFF } else { flat[kind + 1] };
+    let record = match flat[0] {
+        0 => [
+            &flat[1..3],
+            &[2],
+            &flat[3..7],
+            &[flat[8] << 1 | flat[7], flat[9] << 4 | flat[10]],
+            &flat[12..15],
+            &[flat[15] << 7 | flat[16], flat[18] << 6 | flat[20] << 4 | flat[17], value(18), value(20)],
+        ]
+        .concat(),
+        // Of the maker's four bytes a record has three.
+        1 => [&flat[1..11], &flat[12..]].concat(),
+        _ => flat[1..].to_vec(),
+    };
+    record.iter().fold("0 ".into(), |said, byte| format!("{said}{byte:02X}"))
+}
+
+fn written(records: &[Vec<u8>]) -> Vec<Row> {
+    let entry = |name: &str, records: Vec<Vec<u8>>| {
+        let inputs = records.iter().map(|record| flat(record)).collect();
+        of_ours(name.into(), inputs, 0, ours::write_entry, (written_answer, answers::write_entry))
+    };
+    vec![
+        entry("entry written, system", those(records, |record| record[2] == 2)),
+        entry("entry written, OEM", those(records, |record| record[2] != 2)),
     ]
 }
 
@@ -304,6 +342,7 @@ fn lengths() -> Vec<Row> {
 pub fn rows() -> Vec<Row> {
     let records = records();
     let mut rows = entries(&records);
+    rows.extend(written(&records));
     rows.extend(others(&records));
     rows.extend(texts(&records));
     rows.extend(requests(&records));

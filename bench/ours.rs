@@ -48,6 +48,7 @@ pub struct Walk {
 #[link(name = "abi", kind = "static")]
 extern "C" {
     fn sel_entry(data: *const u8, data_length: usize, out: *mut u8, out_length: usize) -> Answer;
+    fn sel_write_entry(flat: *const u8, flat_length: usize, out: *mut u8, out_length: usize) -> Answer;
     fn sel_same_entry(a: *const u8, a_length: usize, b: *const u8, b_length: usize) -> Same;
     fn sel_get_entry(data: *const u8, data_length: usize, out: *mut u8, out_length: usize) -> Answer;
     fn sel_entry_of(version: u8, data: *const u8, data_length: usize, out: *mut u8, out_length: usize) -> Answer;
@@ -110,6 +111,7 @@ macro_rules! calls {
 
 calls! {
     entry, hex: |data, room| sel_entry(data.as_ptr(), data.len(), room.out.as_mut_ptr(), room.out.len());
+    write_entry, hex: |flat, room| sel_write_entry(flat.as_ptr(), flat.len(), room.out.as_mut_ptr(), room.out.len());
     same, sameness: |records, room| {
         let (a, b) = records.split_at(16);
         sel_same_entry(a.as_ptr(), a.len(), b.as_ptr(), b.len())

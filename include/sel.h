@@ -5,9 +5,10 @@
  * of the same call. The pointer of an empty slice may be NULL (this is tested, not proved). Nothing lent is kept, nothing outside it is read or written, nothing is
  * allocated, and every call ends. The statements: crates/abi has each contract, crates/claims what is said here beyond them.
  *
- * Numbers handed back (docs/SCOPE.md): 0 accepted, 1 too short, 2 unknown record type, 3 invalid channel, 4 no room, 5 bad capture, 8 too long,
- * 9 a reservation of 0, 11 no such version; 255 no such letter, command or number, or not the bytes of one. Where the number is not 0, every lent
- * slice is as it was. Where it is 0, what stands behind the bytes written is as it was. */
+ * Numbers handed back (docs/SCOPE.md): 0 accepted, 1 too short, 2 unknown record type, 3 invalid channel, 4 no room,
+ * 5 bad capture, 7 no such record, 8 too long, 9 a reservation of 0, 11 no such version; 255 no such letter, command or
+ * number, or not the bytes of one. Where the number is not 0, every lent slice is as it was. Where it is 0, what stands
+ * behind the bytes written is as it was. */
 #ifndef SEL_H
 #define SEL_H
 
@@ -37,6 +38,19 @@ typedef struct SelAnswer {
  *   OEM without (E0h to FFh), 17 bytes: 02, id (2), type, thirteen bytes.
  * 1 with 16 under 16 bytes; 2 with the type for any other type; 3 with the channel for a system event on channel Ch or Dh; then 4. */
 SelAnswer sel_entry(const uint8_t *data, size_t data_length, uint8_t *out, size_t out_length);
+
+/* The record of an entry, which is given by the flat bytes that sel_entry writes of it. Writes the record's 16 bytes,
+ * which sel_entry decodes to these flat bytes again. Those of an OEM record are the very ones that it was decoded from.
+ * Those of a system event have 0 in each bit that no field holds (bits 3 to 2 of byte 8, and 1 to 0 behind a software
+ * id), and event data that is unspecified as kind 00 and value FFh, whatever they were decoded from.
+ * 7 exactly if sel_entry decodes no record to these flat bytes; then 4 with 16. So 7 is told of a first byte over 02,
+ * of another number of bytes than the first byte has (22 for 00, 18 for 01, 17 for 02), and
+ *   of a system event: a generator or a direction over 01; an address or a software id over 127; channel Ch, Dh or
+ *     over Fh; a unit over 3, or over 0 with a software id; a revision over 02, or with a byte that is not its own (04h
+ *     for 00, 03h for 01, any but these two for 02); an event type over 127; an offset over 15; of event data a kind
+ *     over 3, a value of FFh, or one over 00 with kind 0;
+ *   of an OEM record: a type that is not of its kind (C0h to DFh for 01, E0h to FFh for 02); a maker over FFFFFFh. */
+SelAnswer sel_write_entry(const uint8_t *flat, size_t flat_length, uint8_t *out, size_t out_length);
 
 /* number:  0, or the number that sel_entry refuses the record with: 1, 2 or 3.
  * value:   what that carries: 16 where it is 1, the record type where it is 2, the channel where it is 3; else 0.

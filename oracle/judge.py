@@ -1,6 +1,6 @@
 """What the port has to answer: the Rust's answer, and the model's where it has one. Where both have one, the model's mapped back by model.ported, and by nothing
 else, must be the Rust's. The Rust has no versions, and its rule is that of 2.0: of a question with a version it is asked what follows, and under 1.5 its answer
-is narrowed first, as channels 8h to Bh are reserved there."""
+is narrowed first, as channels 8h to Bh are reserved there. Nor has it a writer: of an entry to write it is asked what it reads from the model's sixteen bytes."""
 
 import sys
 
@@ -13,8 +13,11 @@ PANIC = "panic"
 
 
 def put(question):
-    """The question that the Rust is asked: without its version where that is a named one, and else as it stands."""
+    """The question that the Rust is asked: without its version where that is a named one, of an entry to write its sixteen bytes, and else as it stands."""
     kind, _, digits = question.partition(" ")
+    if kind == "M" and model.answer(question) != "?":
+        data = bytes.fromhex(digits)
+        return f"e {model.written(data[2:15], data[15:]).hex().upper()}"
     if kind not in model.VERSIONED or model.answer(question) in ("?", model.UNNAMED):
         return question
     return f"{model.VERSIONED[kind][0]} {digits[2:]}"
@@ -30,15 +33,25 @@ def narrowed(question, rust):
     return rust
 
 
+def is_read_back(question, entry):
+    """Whether an answer to e is the entry that an M, behind the room, asks to write."""
+    return entry[:2] == "0 " and model.asked_entry(bytes.fromhex(entry[2:])) == bytes.fromhex(question[2:])[2:]
+
+
 def due(question, rust):
     """The answer that is due, by the Rust's to what is put to it. Where the two judges part, that is told, and all is stopped."""
     modelled, asked = model.answer(question), put(question)
     answer = rust if modelled is None else modelled
     if asked.partition(" ")[0] not in BOTH or is_panic(question, rust):
         return answer
-    # a bare 1 is the Rust's alone: the model says what was short, and with a version it says every refusal
-    untold = answer == "1" or modelled is None and asked != question and rust[:2] != "0 "
-    if untold or model.ported(answer) != narrowed(question, rust):
+    if question.startswith("M "):
+        # the second way to say 7: model and Rust read the bytes alike, and not as that entry
+        agree = model.answer(asked) == rust and is_read_back(question, rust) == (answer != "7")
+    else:
+        # a bare 1 is the Rust's alone: the model says what was short, and with a version it says every refusal
+        untold = answer == "1" or modelled is None and asked != question and rust[:2] != "0 "
+        agree = not untold and model.ported(answer) == narrowed(question, rust)
+    if not agree:
         stop(1, f"the Rust answers {rust}, and the model {modelled}: {question[:200]}")
     return answer
 

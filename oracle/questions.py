@@ -1,12 +1,15 @@
 """The questions of the program `replay`, in the order of crates/replay/stdin.
 
-Their answers, crates/replay/stdout, come from four places: from model.py for lines that begin with p, w, s, D, V, L or `ported`, which the Rust
+Their answers, crates/replay/stdout, come from four places: from model.py for lines that begin with p, w, s, D, V, L, M or `ported`, which the Rust
 does not have, for what is refused by its length or by a reservation of 0, which it tells less of, and for what E and G refuse, as it knows no versions (judge.py:
 mapped back it must be the Rust's, which is asked e and g of what follows the version, and answers so what E and G accept; of lines
-that begin with = the two must say the same, and so must s and t of the times, and D and d, V and v of the event types, that the rules leave alone); from dump.py for
+that begin with e or = the two must say the same, and so must s and t of the times, and D and d, V and v of the event types, that the rules leave alone; what M
+writes both must read as the entry that was asked for); from dump.py for
 the words `entry` and `answer`, whose accepted answers are lines of `seldump`, out of the Rust's own answers; from panics.txt where the Rust panics, which the model
 must say too; from the Rust for every other line. That a line is no question, `?`, is said by the program that asks the Rust (src/main.rs), or by model.py.
 """
+
+import model
 
 
 def question(kind, data):
@@ -115,6 +118,13 @@ def typed_records():
     for event in range(256):
         for first in (0x59, 0xF9):
             yield question("e", RECORD[:12] + bytes([event, first]) + RECORD[14:])
+
+
+def unspecified_records():
+    """Event data under every pair of kinds, either byte FFh or not."""
+    for kinds in range(0x00, 0x100, 0x10):
+        for second in (0x12, 0xFF):
+            yield from (question("e", RECORD[:13] + bytes([kinds, second, third])) for third in (0x12, 0xFF))
 
 
 def event_texts():
@@ -346,6 +356,82 @@ def pairs():
     yield from (question("=", (RECORD * 3)[:length]) for length in (0, 15, 16, 17, 31, 33, 48))
 
 
+# Entries to write, by the fields of the question in their order; these fields have more than a byte, and of the OEM bytes the first is the lowest.
+SIZES = {"room": 2, "oem": 13, "id": 2, "time": 4, "maker": 4}
+SYSTEM = {
+    "room": 16, "oem": 0, "head": 0, "id": 1, "time": 1000, "generator": 0, "sender": 0x10, "channel": 0x0, "unit": 2, "revision_kind": 0, "revision": 0x04,
+    "sensor": 0x01, "number": 0x30, "direction": 0, "event_type": 0x01, "offset": 9, "kind2": 1, "value2": 0x5A, "kind3": 1, "value3": 0x55,
+}
+TIMED = {"room": 16, "oem": 0x060504030201, "head": 1, "id": 2, "type": 0xC1, "time": 1000, "maker": 0x8012AB}
+PLAIN = {"room": 16, "oem": 0x0D0C0B0A090807060504030201, "head": 2, "id": 3, "type": 0xE2}
+WRITTEN = [
+    SYSTEM, TIMED, PLAIN,
+    SYSTEM | {"generator": 1, "channel": 0xB, "unit": 0, "revision_kind": 1, "revision": 0x03, "direction": 1, "kind2": 0, "value2": 0, "kind3": 0, "value3": 0},
+    SYSTEM | {"channel": 0xF, "revision_kind": 2, "revision": 0x51, "event_type": 0x6F, "offset": 0, "kind2": 2, "kind3": 3},
+]
+
+# Fields of an entry up to their bound, and past it, where no record parses to it.
+BOUNDS = [
+    *({"sender": sender} for sender in (0, 126, 127, 128, 129, 255)),
+    *({"channel": channel} for channel in (*range(18), 0x80, 0xF0, 0xFF)),
+    *({"generator": 0, "unit": unit} for unit in (0, 1, 2, 3, 4, 5, 255)),
+    *({"revision_kind": 2, "revision": revision} for revision in (0x00, 0x02, 0x03, 0x04, 0x05, 0xFF)),
+    *({"event_type": event} for event in (0, 126, 127, 128, 129, 255)),
+    *({"offset": offset} for offset in (0, 14, 15, 16, 17, 255)),
+    *({f"kind{byte}": kind, f"value{byte}": value} for byte in (2, 3) for kind in (1, 2, 3) for value in EDGES),
+    *({"type": record_type} for record_type in (0x00, 0x02, 0xBF, 0xC0, 0xDF, 0xE0, 0xFF)),
+    *({"maker": maker} for maker in (0, 0xFFFFFE, 0xFFFFFF, 0x1000000, 0x80000000, 2**32 - 1)),
+    *({"oem": value << 8 * place} for place in range(13) for value in (0x01, 0xFF)),
+]
+
+# Fields that no entry has.
+NO_ENTRY = [
+    *({"head": head} for head in (3, 0x80, 0xFF)),
+    *({name: value} for name in ("generator", "direction") for value in (2, 0x81, 0xFF)),
+    *({name: value} for name in ("kind2", "kind3") for value in (4, 0x81, 0xFF)),
+    *({"generator": 1, "unit": unit} for unit in (1, 3, 4, 255)),
+    *({"revision_kind": kind, "revision": revision} for kind in (0, 1, 3, 0xFF) for revision in range(7) if (kind, revision) not in ((0, 0x04), (1, 0x03))),
+    *({f"kind{byte}": 0, f"value{byte}": value} for byte in (2, 3) for value in (0x01, 0xFE, 0xFF)),
+]
+
+ROOMS = (0, 1, 15, 16, 17, 0x00FF, 0x0100, 0xFFFF)
+
+
+def joined(fields):
+    """The bytes of an entry to write."""
+    return b"".join(value.to_bytes(SIZES.get(name, 1), "little") for name, value in fields.items())
+
+
+def fitting(changes, fields):
+    return [change for change in changes if change.keys() <= fields.keys()]
+
+
+def with_each(changes, entries):
+    return [fields | change for fields in entries for change in fitting(changes, fields)]
+
+
+def entries_to_write():
+    """Each bound; heads of another kind; what is no entry, alone, and with a field past its bound and no room, as `?` comes first; rooms, also of what answers 7,
+    which comes before 4, and of what is no entry; damages."""
+    past = with_each([{"sender": 128}, {"type": 0xBF}], WRITTEN)
+    for fields in (*with_each(BOUNDS, WRITTEN), *with_each([{"head": head} for head in range(3)], WRITTEN),
+                   *with_each(NO_ENTRY, WRITTEN), *with_each(NO_ENTRY, with_each([{"room": 0}], past)),
+                   *with_each([{"room": room} for room in ROOMS], [*WRITTEN, *past, *with_each(NO_ENTRY[:1], WRITTEN)])):
+        yield question("M", joined(fields))
+    for fields in (SYSTEM, TIMED, PLAIN):
+        yield from damaged("M", joined(fields))
+
+
+def entry_to_write(flat):
+    return question("M", word(16) + model.asked_entry(flat))
+
+
+def entries_of_records(asked):
+    """Of every record of kind e that is accepted the entry to write, each once."""
+    entries = (model.answer(line) for line in asked if line[:2] == "e ")
+    yield from dict.fromkeys(entry_to_write(bytes.fromhex(entry[2:])) for entry in entries if entry[:2] == "0 ")
+
+
 LAST = 0xFFFF
 
 
@@ -444,7 +530,7 @@ def parsed(asked):
             yield name + line[1:]
 
 
-LETTERS = "eygpiarcdvDVLEGxtsnqw="
+LETTERS = "eygpiarcdvDVLEGMxtsnqw="
 WORDED = ("channel", "unit", "ported")
 FIXED = {"d": 3, "v": 3, "D": 4, "V": 4, "L": 5, "x": 3, "t": 4, "s": 4, "n": 2, "channel": 1, "unit": 1, "ported": 6, "=": 32}
 
@@ -456,7 +542,7 @@ def malformed():
     for kind in (*LETTERS, *WORDED, *PARSERS.values()):
         lines = (kind, kind + "00", kind.upper() + " 00", kind + kind + " 00", f" {kind} 00", f"{kind}  00", f"{kind}\t00", f"{kind}:00")
         yield from (line for line in lines if line not in ("E 00", "G 00"))  # these two have a version, so they are questions
-        data = bytes([0xAB]) * FIXED.get(kind, 18)
+        data = joined(SYSTEM) if kind == "M" else bytes([0xAB]) * FIXED.get(kind, 18)
         good = question(kind, data)
         yield from (good + "0", good.lower(), good + " ", good + "\r", good + "\0", good + " 00", good[:-1] + "G", good[:-1] + "/", good[:-1] + ":",
                     good[:-1] + "@", good[:-1] + "`", good[:-1] + "\xE9", good.replace(" ", " 0x"))
@@ -476,12 +562,12 @@ def longest():
 
 LETTERED = [
     *channels_and_units(), *time_texts(), *allocations(), *event_data(), *typed_data(), *event_texts(),
-    *lengths(), *lengths_alone(), *mapped_back(), *eight_answers(), *fields(), *timed_records(), *typed_records(), *oem_records(), *damages(),
-    *version_bytes(), *versioned_channels(), *versioned_types(), *versioned_lengths(), *versioned_damages(), *texts_of_records(),
-    *pairs(), *record_ids(), *requests(), *small_walks(), *walk_edges(), *long_walks(), *malformed(), *longest(),
+    *lengths(), *lengths_alone(), *mapped_back(), *eight_answers(), *fields(), *timed_records(), *typed_records(), *unspecified_records(), *oem_records(),
+    *damages(), *version_bytes(), *versioned_channels(), *versioned_types(), *versioned_lengths(), *versioned_damages(), *texts_of_records(),
+    *pairs(), *entries_to_write(), *record_ids(), *requests(), *small_walks(), *walk_edges(), *long_walks(), *malformed(), *longest(),
 ]
 
-ASKED = [*LETTERED, *parsed(LETTERED)]
+ASKED = [*LETTERED, *entries_of_records(LETTERED), *parsed(LETTERED)]
 
 # The last line, which no newline closes.
 UNCLOSED = "t E8030000"

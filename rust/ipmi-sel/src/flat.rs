@@ -1,4 +1,5 @@
-//! What the library decodes, in its flat form: the fields one after another, numbers of several bytes from the lowest up.
+//! What the library decodes and writes, in its flat form: the fields one after another, numbers of several bytes from
+//! the lowest up.
 
 use crate::ffi::{self, Answer};
 
@@ -62,5 +63,29 @@ impl Flat {
     #[inline]
     pub(crate) fn u32(&mut self) -> u32 {
         u32::from_le_bytes(self.bytes())
+    }
+}
+
+/// The fields of an entry, put one after another as the library takes them.
+pub(crate) struct Fields {
+    bytes: [u8; MOST],
+    put: usize,
+}
+
+impl Fields {
+    pub(crate) fn new() -> Self {
+        Self { bytes: [0; MOST], put: 0 }
+    }
+
+    /// An entry's fields have at most 22 bytes in all.
+    #[inline]
+    pub(crate) fn put<const N: usize>(mut self, field: [u8; N]) -> Self {
+        self.bytes[self.put..][..N].copy_from_slice(&field);
+        self.put += N;
+        self
+    }
+
+    pub(crate) fn bytes(&self) -> &[u8] {
+        &self.bytes[..self.put]
     }
 }

@@ -1,8 +1,10 @@
 //! The System Event Log part of ipmi-rs-core's interface, over the library `libabi.a`, in which every function is proved to meet its
-//! contract. The library reads all bytes, and writes all texts and requests; here its flat answers become types.
+//! contract. The library reads all bytes, and writes all texts, requests and records; here its flat answers become
+//! types.
 //!
 //! The names and signatures are those of ipmi-rs-core 0.6.0; [`capture`], [`Refusal`], [`Request`], [`storage::Timestamp::log_text`],
-//! [`storage::sdr::TypedData`], and [`connection::Version`] with the two functions that take it are added. README.md says what differs.
+//! [`storage::sdr::TypedData`], [`connection::Version`] with the two functions that take it, and
+//! [`storage::sel::Entry::to_bytes`] with [`NoSuchRecord`] are added. README.md says what differs.
 
 pub mod capture;
 pub mod connection;
@@ -16,7 +18,7 @@ mod session;
 pub mod storage;
 mod text;
 
-pub use refusal::Refusal;
+pub use refusal::{NoSuchRecord, Refusal};
 pub use request::Request;
 
 // What the port does not have, so that one `use` line is enough.

@@ -1,4 +1,5 @@
 //! Why an answer is refused, as the library tells it; and by the library's own mapping, and no other, as the original does.
+//! Beside it the one refusal of an entry that is to be written.
 
 use std::error::Error;
 use std::fmt;
@@ -11,6 +12,7 @@ use crate::storage::sel::ParseEntryError;
 const TOO_SHORT: u32 = 1;
 const UNKNOWN_TYPE: u32 = 2;
 const INVALID_CHANNEL: u32 = 3;
+const NO_SUCH_RECORD: u32 = 7;
 const TOO_LONG: u32 = 8;
 const NO_RESERVATION: u32 = 9;
 
@@ -96,5 +98,33 @@ impl From<Answer> for NotEnoughData {
         let error = ParseEntryError::from(refused);
         debug_assert_eq!(error, ParseEntryError::NotEnoughData);
         NotEnoughData
+    }
+}
+
+/// No record parses to the entry. Not in ipmi-rs-core, which writes no records.
+#[derive(Debug, Clone, Copy, PartialEq, Eq)]
+pub struct NoSuchRecord;
+
+impl NoSuchRecord {
+    /// The number of the refusal, as the project's docs/SCOPE.md has it.
+    pub fn number(&self) -> u32 {
+        NO_SUCH_RECORD
+    }
+}
+
+impl fmt::Display for NoSuchRecord {
+    fn fmt(&self, f: &mut fmt::Formatter<'_>) -> fmt::Result {
+        write!(f, "no such record")
+    }
+}
+
+impl Error for NoSuchRecord {}
+
+/// Of an entry for which there is room, which no other number refuses.
+impl From<Answer> for NoSuchRecord {
+    #[cold]
+    fn from(refused: Answer) -> Self {
+        debug_assert_eq!(refused.number, NO_SUCH_RECORD);
+        NoSuchRecord
     }
 }

@@ -12,8 +12,8 @@ use ipmi_sel::capture::{
 use ipmi_sel::connection::{Channel, ChannelNumber, LogicalUnit, Version};
 use ipmi_sel::storage::sdr::{decode_event, EventData, SensorType, TypedData, TypedData2, TypedData3};
 use ipmi_sel::storage::sel::{
-    ClearSel, Entry, EventGenerator, EventMessageRevision, GetSelEntry, GetSelInfo, ParseEntryError, RecordId, ReserveSel, SelAllocInfo,
-    SelGetAllocInfo, SelInfo,
+    ClearSel, Entry, EventDirection, EventGenerator, EventMessageRevision, GetSelEntry, GetSelInfo, ParseEntryError, RecordId, ReserveSel,
+    SelAllocInfo, SelGetAllocInfo, SelInfo,
 };
 use ipmi_sel::storage::{AllocInfo, Timestamp};
 use ipmi_sel::Refusal;
@@ -78,6 +78,81 @@ fn check_refusal(kind: AnswerKind, bytes: &[u8], error: Option<ParseEntryError>)
     let (refused, by_length) = (refusal(kind, bytes), refused_length(kind, bytes.len()));
     assert!(by_length.is_none() || refused == by_length);
     assert_eq!(refused.map(ParseEntryError::from), error);
+}
+
+/// The entries of records: each is written as a record of the same entry, an OEM record as it was.
+#[test]
+fn written_records() {
+    let mut written = 0;
+    each_answer(|bytes| {
+        let Ok(entry) = Entry::parse(bytes) else { return };
+        let record = entry.to_bytes().unwrap();
+        assert_eq!(same_entry(&record, bytes), Ok(true), "{bytes:02X?}");
+        assert!(bytes[2] == 0x02 || record == bytes[..16], "{bytes:02X?}");
+        assert_eq!(Entry::parse(&record), Ok(entry), "{bytes:02X?}");
+        written += 1;
+    });
+    assert!(written > 10_000, "{written} records were written");
+}
+
+/// A byte, that in half of the cases has no bit 7.
+fn small(dice: &mut Dice) -> u8 {
+    dice.byte() >> dice.below(2)
+}
+
+/// An entry of any fields, and whether a record has them.
+fn any_entry(dice: &mut Dice) -> (Entry, bool) {
+    let record_id = RecordId::new(dice.number() as u16).unwrap_or(RecordId::LAST);
+    let timestamp = Timestamp::from(dice.number());
+    let ty = [0xC0 + dice.byte() % 64, dice.byte()][dice.below(2)];
+    match dice.below(4) {
+        0 => {
+            let manufacturer_id = dice.number() >> [0, 7, 8][dice.below(3)];
+            let data = std::array::from_fn(|_| dice.byte());
+            let has_record = (0xC0..=0xDF).contains(&ty) && manufacturer_id <= 0xFF_FFFF;
+            (Entry::OemTimestamped { record_id, ty, timestamp, manufacturer_id, data }, has_record)
+        }
+        1 => (Entry::OemNotTimestamped { record_id, ty, data: std::array::from_fn(|_| dice.byte()) }, ty >= 0xE0),
+        _ => {
+            let (id, event_type, offset, byte) = (small(dice), small(dice), small(dice) >> 3, dice.byte() % 8);
+            let channel_number = Channel::new(dice.byte() % 12).unwrap();
+            let generator_id = match dice.below(2) {
+                0 => EventGenerator::RqSAAndLun { i2c_addr: id, channel_number, lun: LogicalUnit::from_low_bits(dice.byte()) },
+                _ => EventGenerator::SoftwareId { software_id: id, channel_number },
+            };
+            let known = [EventMessageRevision::V2_0, EventMessageRevision::V1_0];
+            let event_message_format = [known[dice.below(2)], EventMessageRevision::Unknown(byte)][dice.below(2)];
+            let unknown = matches!(event_message_format, EventMessageRevision::Unknown(3 | 4));
+            let entry = Entry::System {
+                record_id,
+                timestamp,
+                generator_id,
+                event_message_format,
+                sensor_type: dice.byte(),
+                sensor_number: dice.byte(),
+                event_direction: [EventDirection::Assert, EventDirection::Deassert][dice.below(2)],
+                event_type,
+                event_data: EventData { offset, ..EventData::parse(&[dice.byte(), dice.byte(), dice.byte()]) },
+            };
+            (entry, id <= 127 && event_type <= 127 && offset <= 15 && !unknown)
+        }
+    }
+}
+
+#[test]
+fn written_entries() {
+    let mut dice = Dice::new(6);
+    let mut written = 0;
+    for _ in 0..CALLS {
+        let (entry, has_record) = any_entry(&mut dice);
+        let record = entry.to_bytes();
+        assert_eq!(record.is_ok(), has_record, "{entry:?}");
+        if let Ok(record) = record {
+            assert_eq!(Entry::parse(&record), Ok(entry));
+            written += 1;
+        }
+    }
+    assert!((CALLS / 5..CALLS / 5 * 4).contains(&written), "{written} entries were written");
 }
 
 /// A record, and mostly the same with a bit or two changed: what is said of the two is what `==` says of their entries.

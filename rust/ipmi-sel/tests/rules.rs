@@ -15,7 +15,7 @@ use ipmi_sel::storage::sel::{
     RecordId, ReserveSel, SelAllocInfo, SelCommand, SelEntryInfo, SelGetAllocInfo,
 };
 use ipmi_sel::storage::{AllocInfo, Timestamp};
-use ipmi_sel::{Refusal, Request};
+use ipmi_sel::{NoSuchRecord, Refusal, Request};
 
 /// The record of docs/SCOPE.md's example: id 1, time 1000, address 10h, sensor type 01h, event type 01h, offset 9.
 const RECORD: [u8; 16] = [0x01, 0x00, 0x02, 0xE8, 0x03, 0x00, 0x00, 0x20, 0x00, 0x04, 0x01, 0x30, 0x01, 0x59, 0x5A, 0x55];
@@ -46,9 +46,25 @@ fn check_versions<T: PartialEq + fmt::Debug>(told: &Result<T, ParseEntryError>, 
     }
 }
 
+/// An entry is written as a record of the same entry: an OEM record as it was, a system record with 0 in the bits that no
+/// field holds.
+fn check_written(entry: &Entry, data: &[u8]) {
+    let record = entry.to_bytes().unwrap();
+    assert_eq!(Entry::parse(&record).as_ref(), Ok(entry));
+    assert_eq!(same_entry(&record, data), Ok(true));
+    match entry {
+        Entry::System { generator_id: EventGenerator::RqSAAndLun { .. }, .. } => assert_eq!(record[8] & 0b1100, 0),
+        Entry::System { generator_id: EventGenerator::SoftwareId { .. }, .. } => assert_eq!(record[8] & 0b1111, 0),
+        _ => assert_eq!(record, data[..16]),
+    }
+}
+
 fn parsed(data: &[u8]) -> Result<Entry, ParseEntryError> {
     let entry = Entry::parse(data);
     check_versions(&entry, Entry::parse_in(Version::V1_5, data), Entry::parse_in(Version::V2_0, data));
+    if let Ok(entry) = &entry {
+        check_written(entry, data);
+    }
     entry
 }
 
@@ -181,6 +197,104 @@ fn refused_records() {
     // Length first, then type, then channel.
     assert_eq!(parsed(&changed(RECORD, 2, 0x03)[..15]), Err(ParseEntryError::NotEnoughData));
     assert_eq!(parsed(&changed(changed(RECORD, 2, 0x03), 8, 0xC0)), Err(ParseEntryError::UnknownRecordType(0x03)));
+}
+
+#[test]
+fn written_records() {
+    let written = |record: [u8; 16]| parsed(&record).unwrap().to_bytes();
+    assert_eq!(written(RECORD), Ok(RECORD));
+    // Bits that no field holds: two behind an address, four behind a software id.
+    assert_eq!(written(changed(RECORD, 8, 0x7E)), Ok(changed(RECORD, 8, 0x72)));
+    let by_software = changed(RECORD, 7, 0x21);
+    assert_eq!(written(changed(by_software, 8, 0x7F)), Ok(changed(by_software, 8, 0x70)));
+    for revision in [0x03, 0x05] {
+        assert_eq!(written(changed(RECORD, 9, revision)), Ok(changed(RECORD, 9, revision)));
+    }
+    // Unspecified event data, by kind or by value.
+    for (data, expected) in [
+        ([0xC0, 0xFF, 0x12], [0x00, 0xFF, 0xFF]),
+        ([0x15, 0x34, 0x12], [0x15, 0xFF, 0x12]),
+        ([0xF5, 0xFE, 0xFF], [0xC5, 0xFE, 0xFF]),
+        ([0xF5, 0x00, 0x00], [0xF5, 0x00, 0x00]),
+    ] {
+        let with = |[b1, b2, b3]: [u8; 3]| changed(changed(changed(RECORD, 13, b1), 14, b2), 15, b3);
+        assert_eq!(written(with(data)), Ok(with(expected)));
+    }
+    for ty in [0xC0, 0xDF, 0xE0, 0xFF] {
+        let oem = changed([0xFF; 16], 2, ty);
+        assert_eq!(written(oem), Ok(oem));
+        assert_eq!(written(changed([0x00; 16], 2, ty)), Ok(changed([0x00; 16], 2, ty)));
+    }
+
+    let greatest = Entry::System {
+        record_id: RecordId::LAST,
+        timestamp: Timestamp::from(u32::MAX),
+        generator_id: EventGenerator::RqSAAndLun { i2c_addr: 0x7F, channel_number: Channel::System, lun: LogicalUnit::Three },
+        event_message_format: EventMessageRevision::Unknown(0xFF),
+        sensor_type: 0xFF,
+        sensor_number: 0xFF,
+        event_direction: EventDirection::Deassert,
+        event_type: 0x7F,
+        event_data: EventData {
+            offset: 15,
+            data2_type: EventData2Type::SensorSpecific(value(0xFE)),
+            data3_type: EventData3Type::SensorSpecific(value(0xFE)),
+        },
+    };
+    let record = [0xFF, 0xFF, 0x02, 0xFF, 0xFF, 0xFF, 0xFF, 0xFE, 0xF3, 0xFF, 0xFF, 0xFF, 0xFF, 0xFF, 0xFE, 0xFE];
+    assert_eq!(greatest.to_bytes(), Ok(record));
+}
+
+/// The entry of RECORD, but for these fields.
+fn system(generator_id: EventGenerator, event_message_format: EventMessageRevision, event_type: u8, offset: u8) -> Entry {
+    Entry::System {
+        record_id: record_id(1),
+        timestamp: Timestamp::from(1000),
+        generator_id,
+        event_message_format,
+        sensor_type: 0x01,
+        sensor_number: 0x30,
+        event_direction: EventDirection::Assert,
+        event_type,
+        event_data: EventData {
+            offset,
+            data2_type: EventData2Type::TriggerReading(value(90)),
+            data3_type: EventData3Type::TriggerThreshold(value(85)),
+        },
+    }
+}
+
+/// All that the types can hold and no record can: a channel, a unit and a value are always those of one.
+#[test]
+fn entries_that_no_record_has() {
+    let check = |entry: Entry, has_record: bool| match entry.to_bytes() {
+        Ok(record) => assert_eq!((Entry::parse(&record), has_record), (Ok(entry), true)),
+        Err(NoSuchRecord) => assert!(!has_record, "{entry:?}"),
+    };
+    let by_address = |i2c_addr| EventGenerator::RqSAAndLun { i2c_addr, channel_number: Channel::Primary, lun: LogicalUnit::Zero };
+    let by_software = |software_id| EventGenerator::SoftwareId { software_id, channel_number: Channel::Primary };
+    let timed = |ty, manufacturer_id| Entry::OemTimestamped {
+        record_id: record_id(1),
+        ty,
+        timestamp: Timestamp::from(1000),
+        manufacturer_id,
+        data: [1, 2, 3, 4, 5, 6],
+    };
+    let plain = |ty| Entry::OemNotTimestamped { record_id: record_id(1), ty, data: [0xFF; 13] };
+    let revision = EventMessageRevision::V2_0;
+    for byte in 0..=u8::MAX {
+        check(system(by_address(byte), revision, 0x01, 9), byte <= 127);
+        check(system(by_software(byte), revision, 0x01, 9), byte <= 127);
+        check(system(by_address(0x10), EventMessageRevision::Unknown(byte), 0x01, 9), byte != 0x03 && byte != 0x04);
+        check(system(by_address(0x10), revision, byte, 9), byte <= 127);
+        check(system(by_address(0x10), revision, 0x01, byte), byte <= 15);
+        check(timed(byte, 0xFF_FFFF), (0xC0..=0xDF).contains(&byte));
+        check(plain(byte), byte >= 0xE0);
+    }
+    for maker in [0, 1, 0xFF_FFFF, 0x100_0000, 0x8000_0000, u32::MAX] {
+        check(timed(0xC0, maker), maker <= 0xFF_FFFF);
+    }
+    assert_eq!((NoSuchRecord.number(), NoSuchRecord.to_string()), (7, "no such record".to_string()));
 }
 
 #[test]

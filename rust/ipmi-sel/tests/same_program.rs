@@ -186,6 +186,22 @@ fn equal_entries() {
     assert!(pairs.len() > 4000 && equal > 300);
 }
 
+/// What is written of a record's entry is a record of the same entry to the original, too.
+#[test]
+fn written_records() {
+    let mut written = 0;
+    for bytes in questions() {
+        let Ok(entry) = ipmi_sel::storage::sel::Entry::parse(&bytes) else { continue };
+        let record = entry.to_bytes().unwrap();
+        assert_eq!(original::equal(&record, &bytes), Some(true), "{bytes:02X?}");
+        let parsed = ipmi_rs_core::storage::sel::Entry::parse(&record).unwrap();
+        assert_eq!(format!("{parsed:?}"), format!("{entry:?}"), "{bytes:02X?}");
+        written += 1;
+    }
+    println!("{written} records were written");
+    assert!(written > 10_000);
+}
+
 #[test]
 fn fields() {
     let mut compared = 0;

@@ -106,6 +106,14 @@ macro_rules! data_byte {
                     Self::SensorSpecific(value) => (3, value.get()),
                 }
             }
+
+            /// As the flat form has it, in which an unspecified byte is all 0.
+            fn flat(self) -> [u8; 2] {
+                match self.parts() {
+                    NO_DATA => [0, 0],
+                    (kind, value) => [kind, value],
+                }
+            }
         }
     };
 }
@@ -163,6 +171,12 @@ impl EventData {
     fn bytes(&self) -> [u8; 3] {
         let ((kind2, value2), (kind3, value3)) = (self.data2_type.parts(), self.data3_type.parts());
         [kind2 << 6 | kind3 << 4, value2, value3]
+    }
+
+    /// As `decoded` takes it.
+    pub(crate) fn flat(&self) -> [u8; 5] {
+        let ([kind2, value2], [kind3, value3]) = (self.data2_type.flat(), self.data3_type.flat());
+        [self.offset, kind2, value2, kind3, value3]
     }
 
     #[inline]

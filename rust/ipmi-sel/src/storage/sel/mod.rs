@@ -1,4 +1,5 @@
-//! Records and their ids. After src/storage/sel/mod.rs of ipmi-rs-core 0.6.0, changed: the library reads the bytes.
+//! Records and their ids. After src/storage/sel/mod.rs of ipmi-rs-core 0.6.0, changed: the library reads the bytes, and
+//! writes them.
 
 use std::fmt;
 
@@ -6,8 +7,8 @@ use super::sdr::{decode_event, EventData, SensorType};
 use super::Timestamp;
 use crate::connection::{Channel, LogicalUnit, Version};
 use crate::ffi;
-use crate::flat::Flat;
-use crate::Refusal;
+use crate::flat::{Fields, Flat};
+use crate::{NoSuchRecord, Refusal};
 
 mod clear;
 mod get_alloc_info;
@@ -98,6 +99,14 @@ impl EventGenerator {
             Self::RqSAAndLun { i2c_addr: id, channel_number, lun }
         }
     }
+
+    /// As `decoded` takes it.
+    fn flat(&self) -> [u8; 4] {
+        match self {
+            Self::RqSAAndLun { i2c_addr, channel_number, lun } => [0, *i2c_addr, channel_number.value(), lun.value()],
+            Self::SoftwareId { software_id, channel_number } => [1, *software_id, channel_number.value(), 0],
+        }
+    }
 }
 
 impl TryFrom<(u8, u8)> for EventGenerator {
@@ -127,6 +136,15 @@ impl EventMessageRevision {
             0 => Self::V2_0,
             1 => Self::V1_0,
             _ => Self::Unknown(value),
+        }
+    }
+
+    /// As `decoded` takes it.
+    fn flat(&self) -> [u8; 2] {
+        match self {
+            Self::V2_0 => [0, 0x04],
+            Self::V1_0 => [1, 0x03],
+            Self::Unknown(value) => [2, *value],
         }
     }
 }
@@ -204,6 +222,52 @@ impl Entry {
     pub fn parse_in(version: Version, data: &[u8]) -> Result<Self, Refusal> {
         let mut flat = Flat::written(|out| ffi::entry_of(version.number(), data, out)).map_err(Refusal::told)?;
         Ok(Self::decoded(&mut flat))
+    }
+
+    /// The sixteen bytes of a record that [`parse`](Self::parse) reads as this entry; the error where there is none. An
+    /// OEM record that was parsed comes back as it was. A system record has 0 in the bits that no field holds, and kind
+    /// 00 and value FFh for unspecified event data. Not in ipmi-rs-core.
+    pub fn to_bytes(&self) -> Result<[u8; 16], NoSuchRecord> {
+        let mut record = [0; 16];
+        let answer = ffi::write_entry(self.fields().bytes(), &mut record);
+        if answer.number == 0 {
+            Ok(record)
+        } else {
+            Err(answer.into())
+        }
+    }
+
+    /// As `decoded` takes them.
+    fn fields(&self) -> Fields {
+        match self {
+            Self::System {
+                record_id,
+                timestamp,
+                generator_id,
+                event_message_format,
+                sensor_type,
+                sensor_number,
+                event_direction,
+                event_type,
+                event_data,
+            } => Fields::new()
+                .put([0])
+                .put(record_id.0.to_le_bytes())
+                .put(timestamp.0.to_le_bytes())
+                .put(generator_id.flat())
+                .put(event_message_format.flat())
+                .put([*sensor_type, *sensor_number])
+                .put([u8::from(*event_direction == EventDirection::Deassert), *event_type])
+                .put(event_data.flat()),
+            Self::OemTimestamped { record_id, ty, timestamp, manufacturer_id, data } => Fields::new()
+                .put([1])
+                .put(record_id.0.to_le_bytes())
+                .put([*ty])
+                .put(timestamp.0.to_le_bytes())
+                .put(manufacturer_id.to_le_bytes())
+                .put(*data),
+            Self::OemNotTimestamped { record_id, ty, data } => Fields::new().put([2]).put(record_id.0.to_le_bytes()).put([*ty]).put(*data),
+        }
     }
 
     // In each of its four callers: called by them, it takes some 80 instructions more a record.

@@ -33,9 +33,10 @@ SAID = [
 # The numbers of refusals: what the header says of them, and the constants of Rust, with the names of the definitions.
 NUMBERS = 'crates/field/specs/Handed.antt'
 NAMED = ('0 accepted, {notEnoughData} too short, {unknownType} unknown record type, {invalidChannel} invalid channel, {noRoom} no room, {badCapture} bad capture, '
-         '{tooLong} too long, {noReservation} a reservation of 0, {unnamedVersion} no such version;')
+         '{noSuchRecord} no such record, {tooLong} too long, {noReservation} a reservation of 0, {unnamedVersion} no such version;')
 CONSTANTS = [
-    ('TOO_SHORT', 'notEnoughData'), ('UNKNOWN_TYPE', 'unknownType'), ('INVALID_CHANNEL', 'invalidChannel'), ('TOO_LONG', 'tooLong'), ('NO_RESERVATION', 'noReservation'),
+    ('TOO_SHORT', 'notEnoughData'), ('UNKNOWN_TYPE', 'unknownType'), ('INVALID_CHANNEL', 'invalidChannel'), ('NO_SUCH_RECORD', 'noSuchRecord'), ('TOO_LONG', 'tooLong'),
+    ('NO_RESERVATION', 'noReservation'),
 ]
 # The numbers of the versions: the header's macro, the constant of Rust, the definition.
 VERSIONS = [('SEL_IPMI_1_5', 'IPMI_1_5', 'ipmi15'), ('SEL_IPMI_2_0', 'IPMI_2_0', 'ipmi20')]

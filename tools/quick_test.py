@@ -331,10 +331,11 @@ for file, old, new, word in CHANGED:
     said = tried({**EXPORTS, file: EXPORTS[file].replace(old, new)})
     if old not in EXPORTS[file] or not any(word in x for x in said):
         bad.append(f'planted in {file}, and not found: {word} (said: {said})')
-# The samples of seldump must differ on a command that prints what it reads, on one that always ends well, and on one that never says why it failed.
-for command, word in (('cat', 'CR LF: line 1 must be'), ('true', 'standard output closed: the status must be 1, is 0'), ('false', "a full disk: b'cannot be written' must be said")):
-    samples = subprocess.run([sys.executable, Path(__file__).with_name('samples.py'), command], capture_output=True, text=True)
-    if samples.returncode != 1 or f'samples: {word}' not in samples.stdout:
-        bad.append(f'samples.py takes {command} for seldump (status {samples.returncode})')
+# The samples of both programs must differ on a command that prints what it reads, on one that always ends well, and on one that never says why it failed.
+for program, first in (('seldump', 'CR LF'), ('selmake', 'a system entry')):
+    for command, word in (('cat', f'{first}: line 1 must be'), ('true', 'standard output closed: the status must be 1, is 0'), ('false', "a full disk: b'cannot be written' must be said")):
+        samples = subprocess.run([sys.executable, Path(__file__).with_name('samples.py'), program, command], capture_output=True, text=True)
+        if samples.returncode != 1 or f'samples: {program}, {word}' not in samples.stdout:
+            bad.append(f'samples.py takes {command} for {program} (status {samples.returncode})')
 print(*bad, sep='\n', end='\n' if bad else '')
 sys.exit(bool(bad))

@@ -1,10 +1,12 @@
 #!/usr/bin/env python3
-"""Runs the command seldump on the captures of examples/ and on inputs whose outcome the rules give at once, and compares what it prints and its status.
+"""Runs the commands seldump and selmake on the files of examples/ and on inputs whose outcome the rules give at once, and compares what they print and
+their statuses; with arguments, the program of that name by the command that follows: samples.py NAME COMMAND.
 
-What must be printed stands in examples/*.out and below, from the rules (docs/SCOPE.md), never from the program. One line for each difference and exit
+What must be printed stands in examples/ and below, from the rules (docs/SCOPE.md), never from the programs. One line for each difference and exit
 status 1, or one line that says how many samples agree.
 """
 
+import collections
 import fcntl
 import itertools
 import os
@@ -52,8 +54,8 @@ CIRCLE = capture(*((k, (k + 1) % 3000) for k in range(3000)))
 CHAIN = capture(*((k, k + 1 if k < 2999 else 0xFFFF) for k in reversed(range(3000))))
 TOO_MANY = b"refused=5 line=3001\n"
 
-# name, standard input, what must be printed
-INPUTS = [
+# Of seldump: name, standard input, what must be printed
+DUMPED = [
     ("the case of the rules", LINE, ENDED),
     ("an empty input", b"", b"walk=missing ask=0000 read=0\n"),
     ("a later id missing", capture((0, 1)), OUTPUT + b"walk=missing ask=0001 read=1\n"),
@@ -85,11 +87,89 @@ INPUTS = [
     ("3,001 lines, the first one bad", LINE.lower() + CHAIN, bad(1)),
 ]
 
-PIECES = [
+DUMPED_IN_PIECES = [
     ("the case of the rules", LINE, ENDED),
     ("two slots", capture((0, 0x00FF), (0x00FF, 0xFFFF)), OUTPUT * 2 + b"walk=ended read=2\n"),
     ("a third line bad", LINE * 2 + LINE.lower(), bad(3)),
     ("a second line without newline", LINE + LINE[:-1], bad(2)),
+]
+
+# Lines of entries: that of the case, and both kinds of OEM entries, with their records.
+ENTRY = b"id=0001 time=000003E8 gen=0:10 chan=0 lun=0 rev=04 sensor=01 number=30 dir=0 type=01 offset=9 data2=1:5A data3=1:55\n"
+STAMPED, STAMPED_RECORD = b"id=0104 type=C1 time=6553F1FF maker=0002A2 data=0102030405FF\n", b" record=0401C1FFF15365A202000102030405FF\n"
+PLAIN, PLAIN_RECORD = b"id=ABCD type=E0 data=000102030405060708090A0B0C\n", b" record=CDABE0000102030405060708090A0B0C\n"
+THREE = b"ask=0000 next=0104" + RECORD + b"ask=0104 next=ABCD" + STAMPED_RECORD + b"ask=ABCD next=FFFF" + PLAIN_RECORD
+
+
+def makes(must):
+    """What comes where the capture is made."""
+    return must, 0, b""
+
+
+def no_line(line):
+    return b"", 5, b"selmake: line %d: no entry line (6)\n" % line
+
+
+def no_such(line):
+    return b"", 5, b"selmake: line %d: no such record (7)\n" % line
+
+
+def entry(*changes):
+    """The case's line with other fields."""
+    line = ENTRY
+    for field, value in (change.split(b"=") for change in changes):
+        start = line.index(field + b"=") + len(field) + 1
+        line = line[:start] + value + line[start + len(value):]
+    return line
+
+
+def slot(place, digits):
+    """The case's slot, with other digits from a byte of its record on."""
+    start = len(b"ask=0000 next=FFFF record=") + 2 * place
+    return makes(LINE[:start] + digits + LINE[start + len(digits):])
+
+
+MANY = ENTRY * 3000
+MADE = makes(capture((0, 1), *[(1, 1)] * 2998, (1, 0xFFFF)))
+MORE_LINES = b"", 5, b"selmake: more than 3000 lines (5)\n"
+
+NO_RECORD = (b"gen=0:80", b"gen=1:80", b"gen=2:10", b"chan=C", b"chan=D", b"lun=4", b"dir=2", b"type=80",
+             b"data2=1:FF", b"data2=0:01", b"data2=4:00", b"data3=3:FF", b"data3=0:FF", b"data3=4:00")
+
+# Of selmake: name, standard input, what must come
+ENTRIES = [
+    ("a system entry", ENTRY, makes(LINE)),
+    ("an OEM entry with a time", STAMPED, makes(b"ask=0000 next=FFFF" + STAMPED_RECORD)),
+    ("an OEM entry without", PLAIN, makes(b"ask=0000 next=FFFF" + PLAIN_RECORD)),
+    ("all three", ENTRY + STAMPED + PLAIN, makes(THREE)),
+    ("an empty input", b"", makes(b"")),
+    ("a software id", entry(b"gen=1:7F"), slot(7, b"FF")),
+    ("the highest address, channel and unit", entry(b"gen=0:7F", b"chan=B", b"lun=3"), slot(7, b"FEB3")),
+    ("system software's channel, another revision", entry(b"chan=F", b"rev=05"), slot(8, b"F005")),
+    ("a deassertion, the highest type and offset", entry(b"dir=1", b"type=7F", b"offset=F"), slot(12, b"FF5F")),
+    ("event data that is unspecified", entry(b"data2=0:00", b"data3=0:00"), slot(13, b"09FFFF")),
+    ("event data of the other kinds", entry(b"data2=2:00", b"data3=3:FE"), slot(13, b"B900FE")),
+    *((f"no record: {change.decode()}", entry(change), no_such(1)) for change in NO_RECORD),
+    ("no record: a software id with a unit", entry(b"gen=1:10", b"lun=1"), no_such(1)),
+    ("no record: a time under type E0", STAMPED.replace(b"C1", b"E0"), no_such(1)),
+    ("no record: no time under type DF", PLAIN.replace(b"E0", b"DF"), no_such(1)),
+    ("no entry line", ENTRY + b"id=0001\n", no_line(2)),
+    ("no record, then no entry line", entry(b"lun=4") + b"\n", no_such(1)),
+    ("no entry line, then no record", ENTRY + b"\n" + entry(b"lun=4"), no_line(2)),
+    ("a lone newline", b"\n", no_line(1)),
+    ("a last line without newline", ENTRY + PLAIN[:-1], no_line(2)),
+    ("CR LF", ENTRY.replace(b"\n", b"\r\n"), no_line(1)),
+    ("lower case", ENTRY + STAMPED.lower(), no_line(2)),
+    ("a slot's line", LINE, no_line(1)),
+    ("a NUL byte before the newline", PLAIN[:-1] + b"\0\n", no_line(1)),
+    ("400,000 characters and no newline", ENTRY + b"0" * 400_000, no_line(2)),
+    ("3,000 lines", MANY, MADE),
+    ("3,000 lines, the last one refused", MANY[:-len(ENTRY)] + entry(b"lun=4"), no_such(3000)),
+    ("3,001 lines", MANY + ENTRY, MORE_LINES),
+    ("3,001 lines, the last one a newline", MANY + b"\n", MORE_LINES),
+    ("3,001 lines, the last one without newline", MANY + b"0", MORE_LINES),
+    ("6,000 lines", MANY * 2, MORE_LINES),
+    ("3,001 lines, the first one bad", ENTRY.lower() + MANY, no_line(1)),
 ]
 
 
@@ -155,13 +235,22 @@ def run_on(command, path):
 CUT = b"cannot be read to its end"
 UNWRITTEN = b"cannot be written"
 
+# Of a program: an example, with the ending that all of its inputs in examples/ have, the ending of its outputs there, and what comes where one is printed;
+# other inputs, and those that are given in pieces; a good line, what is printed for it, and an input with much to print; what comes where line k cannot be read.
+Program = collections.namedtuple("Program", "example output comes inputs pieces line printed long cut")
+PROGRAMS = {
+    "seldump": Program(
+        ROOT / "examples/oem.txt", ".out", closes, [(name, data, closes(must, b"CR LF" if b"\r\n" in data else b"")) for name, data, must in DUMPED],
+        [(name, data, closes(must)) for name, data, must in DUMPED_IN_PIECES], LINE, ENDED, CHAIN, lambda k: closes(bad(k), CUT)),
+    "selmake": Program(ROOT / "examples/made.entries", ".txt", makes, ENTRIES, ENTRIES[:5], ENTRY, LINE, MANY, lambda k: (b"", 1, CUT)),
+}
 
-def calls(command):
+
+def calls(program, command):
     """Of each way to call it: what must be printed (None: anything), the status, and what must be said; and what came."""
-    example = ROOT / "examples/oem.txt"
-    ended = closes(example.with_suffix(".out").read_bytes())
-    yield "--", ended, run([*command, "--", str(example)])
-    yield "- for standard input", closes(ENDED), run([*command, "-"], LINE)
+    example = program.example
+    yield "--", program.comes(example.with_suffix(program.output).read_bytes()), run([*command, "--", str(example)])
+    yield "- for standard input", program.comes(program.printed), run([*command, "-"], program.line)
     for word in ("--help", "-h", "--version"):
         yield word, (None, 0, b""), run([*command, word])
     yield "an unknown option", (b"", 2, b"unknown option --colour"), run([*command, "--colour"])
@@ -170,12 +259,12 @@ def calls(command):
     yield "a directory", (b"", 1, b"is a directory"), run([*command, "examples"])
     yield "a file's name with an escape sequence", (b"", 1, b"none?[31m"), run([*command, "none\x1b[31m"])
     yield "standard input closed", (b"", 1, b"standard input is closed"), run(command, file=None, preexec_fn=lambda: os.close(0))
-    yield "standard output closed", (b"", 1, b"standard output is closed"), run(command, LINE, preexec_fn=lambda: os.close(1))
+    yield "standard output closed", (b"", 1, b"standard output is closed"), run(command, program.line, preexec_fn=lambda: os.close(1))
     with open("/dev/full", "wb") as full:
-        yield "a full disk", (b"", 1, UNWRITTEN), run(command, LINE, stdout=full)
-    yield "a reader that goes away", (b"", 1, b""), run_with_output(command, CHAIN, reads=10)
-    yield "output that would block", (b"", 1, UNWRITTEN), run_with_output(command, CHAIN, blocks=False)
-    yield "input that would block", closes(bad(1), CUT), run_without_input(command)
+        yield "a full disk", (b"", 1, UNWRITTEN), run(command, program.line, stdout=full)
+    yield "a reader that goes away", (b"", 1, b""), run_with_output(command, program.long, reads=10)
+    yield "output that would block", (b"", 1, UNWRITTEN), run_with_output(command, program.long, blocks=False)
+    yield "input that would block", program.cut(1), run_without_input(command)
 
 
 def run_with_output(command, data, reads=0, blocks=True):
@@ -240,29 +329,29 @@ def interrupted(folder):
     yield "two of three reads interrupted", (OUTPUT * 3000 + b"walk=ended read=3000\n", 0, b""), run([str(program)], CHAIN, env=environment)
 
 
-def outcomes(command):
+def outcomes(name, command):
     """Of each sample its name, what must come, and what came: what is printed, the status, and words on standard error."""
-    captures = sorted((ROOT / "examples").glob("*.txt"))
-    if not captures:
-        yield "examples/", (b"(captures)", 0, b""), (b"(none there)", 0, b"")
-    for path in captures:
-        name, output = f"examples/{path.name}", path.with_suffix(".out")
-        must = closes(output.read_bytes()) if output.exists() else (b"(no %s there)" % output.name.encode(), 0, b"")
-        yield f"{name} as FILE", must, run([*command, str(path)], file=subprocess.DEVNULL)
-        yield f"{name} as standard input", must, run_on(command, path)
-    for name, data, must in INPUTS:
-        yield name, closes(must, b"CR LF" if b"\r\n" in data else b""), run(command, data)
-    for name, data, must in PIECES:
-        yield f"{name}, in pieces of 7 bytes", closes(must), run(command, data, size=7)
-    yield "a folder as standard input", closes(bad(1), CUT), run_on(command, ROOT)
-    yield from calls(command)
-    with tempfile.TemporaryDirectory() as folder:
-        yield from interrupted(pathlib.Path(folder))
+    program = PROGRAMS[name]
+    for path in sorted({program.example, *(ROOT / "examples").glob("*" + program.example.suffix)}):
+        output = path.with_suffix(program.output)
+        must = program.comes(output.read_bytes()) if output.exists() else (b"(no %s there)" % output.name.encode(), 0, b"")
+        yield f"examples/{path.name} as FILE", must, run([*command, str(path)], file=subprocess.DEVNULL)
+        yield f"examples/{path.name} as standard input", must, run_on(command, path)
+    for sample, data, must in program.inputs:
+        yield sample, must, run(command, data)
+    for sample, data, must in program.pieces:
+        yield f"{sample}, in pieces of 7 bytes", must, run(command, data, size=7)
+    yield "a folder as standard input", program.cut(1), run_on(command, ROOT)
+    yield from calls(program, command)
+    if name == "seldump":  # selmake takes a read that is interrupted for one that fails
+        with tempfile.TemporaryDirectory() as folder:
+            yield from interrupted(pathlib.Path(folder))
     if not terminals():
         print("samples: no terminal is to be had, so the reads that fail after good bytes are left out")
         return
-    for name, data, line in (("58 good characters", LINE[:-1], 1), ("a good line", LINE, 2), ("a bad line and a good one", LINE.lower() + LINE, 1)):
-        yield f"{name}, and then a read that fails", closes(bad(line), CUT), run_until_error(command, data)
+    line = program.line
+    for sample, data, k in (("a line without newline", line[:-1], 1), ("a good line", line, 2), ("a bad line and a good one", line.lower() + line, 1)):
+        yield f"{sample}, and then a read that fails", program.cut(k), run_until_error(command, data)
 
 
 def difference(must, came):
@@ -281,17 +370,18 @@ def first_difference(must, prints):
 
 
 def main():
-    command = sys.argv[1:] or ["./seldump"]
+    commands = {sys.argv[1]: sys.argv[2:]} if sys.argv[1:] else {name: [f"./{name}"] for name in PROGRAMS}
     agree = differ = 0
     try:
-        subprocess.run(command, cwd=ROOT, stdin=subprocess.DEVNULL, stdout=subprocess.DEVNULL)  # the first run may build, which takes its time
-        for name, must, came in outcomes(command):
-            fault = difference(must, came)
-            if fault:
-                differ += 1
-                print(f"samples: {name}: {fault}")
-            else:
-                agree += 1
+        for program, command in commands.items():
+            subprocess.run(command, cwd=ROOT, stdin=subprocess.DEVNULL, stdout=subprocess.DEVNULL)  # the first run may build, which takes its time
+            for name, must, came in outcomes(program, command):
+                fault = difference(must, came)
+                if fault:
+                    differ += 1
+                    print(f"samples: {program}, {name}: {fault}")
+                else:
+                    agree += 1
     except OSError as error:
         print(f"samples: {error}")
         return 1

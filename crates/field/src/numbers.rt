@@ -9,6 +9,8 @@ pub const NO_ROOM: u32 = 4;
 
 pub const BAD_CAPTURE: u32 = 5;
 
+pub const BAD_LINE: u32 = 6;
+
 pub const NO_SUCH_RECORD: u32 = 7;
 
 pub const TOO_LONG: u32 = 8;

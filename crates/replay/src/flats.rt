@@ -11,19 +11,10 @@ const ROOM: usize = 80;
 
 pub(crate) fn ask(letter: u8, data: &[u8]) {
     let mut out = [0xEEu8; ROOM];
-    let answer = flat::flat(letter, data, &mut out);
-    say_answer(answer, &out, flat::is_text(flat::kind_of(letter)));
-}
-
-pub(crate) fn made(data: &[u8]) {
-    let mut out = [0xEEu8; ROOM];
-    let answer = flat_writer::made(data, &mut out);
-    say_answer(answer, &out, false);
-}
-
-fn say_answer(answer: SelAnswer, out: &[u8], text: bool) {
+    let answer = answer_to(letter, data, &mut out);
     if answer.number == 0 {
-        say_taken(up_to(out, answer.value), text);
+        let text = flat::is_text(flat::kind_of(letter));
+        say_taken(up_to(&out, answer.value), text);
         return;
     }
     if answer.number == NO_QUESTION {
@@ -31,6 +22,13 @@ fn say_answer(answer: SelAnswer, out: &[u8], text: bool) {
         return;
     }
     say_refusal(answer.number, answer.value);
+}
+
+fn answer_to(letter: u8, data: &[u8], out: &mut [u8]) -> SelAnswer {
+    if letter == b'M' {
+        return flat_writer::made(data, out);
+    }
+    flat::flat(letter, data, out)
 }
 
 // The flat bytes in hexadecimal, or a text as it is.

@@ -21,7 +21,6 @@ enum Asked {
     Letter(u8),
     Walk,
     Same,
-    Made,
     Channel,
     Unit,
     Ported,
@@ -109,7 +108,6 @@ fn of_letter(letter: u8) -> Asked {
     match letter {
         b'w' => Asked::Walk,
         b'=' => Asked::Same,
-        b'M' => Asked::Made,
         _ => Asked::Letter(letter),
     }
 }
@@ -162,7 +160,6 @@ fn answer_to(asked: Asked, data: &[u8]) {
         Asked::Letter(letter) => flats::ask(letter, data),
         Asked::Walk => walks::walk(data),
         Asked::Same => sames::same(data),
-        Asked::Made => flats::made(data),
         Asked::Channel => words::channel(data),
         Asked::Unit => words::unit(data),
         Asked::Ported => words::ported(data),

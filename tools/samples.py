@@ -271,11 +271,13 @@ def run_with_output(command, data, reads=0, blocks=True):
     """With a pipe as standard output of which so many bytes are read before it is closed; or none, and writing to it does not wait."""
     end, output = os.pipe()
     os.set_blocking(output, blocks)
+    with tempfile.TemporaryFile() as file:  # all is there to be read, also where the command waits to write
+        file.write(data)
+        file.seek(0)
+        process = subprocess.Popen(command, cwd=ROOT, stdin=file, stdout=output, stderr=subprocess.PIPE)
     try:
-        with subprocess.Popen(command, cwd=ROOT, stdin=subprocess.PIPE, stdout=output, stderr=subprocess.PIPE) as process:
+        with process:
             os.close(output)
-            process.stdin.write(data)
-            process.stdin.close()
             if blocks:
                 os.read(end, reads)
                 os.close(end)

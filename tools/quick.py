@@ -256,10 +256,11 @@ def wide_lines(root):
 
 
 def sample_faults(root):
-    """Samples of README.md that are not what stands in examples/: a capture, or what seldump prints for it."""
+    """Samples of README.md that are not what stands in examples/: a capture or entries, what seldump prints for the one, and what selmake makes of the others."""
     page = root / 'README.md'
-    for command, name, shown in re.findall(r'(?m)^    \$ (cat|\./seldump) (\S+)\n((?:    [^$\n].*\n)*)', page.read_text() if page.is_file() else ''):
-        file = root / name if command == 'cat' else (root / name).with_suffix('.out')
+    for command, name, shown in re.findall(r'(?m)^    \$ (cat|\./seldump|\./selmake) (\S+)\n((?:    [^$\n].*\n)*)', page.read_text() if page.is_file() else ''):
+        shows = {'cat': (root / name).suffix, './seldump': '.out', './selmake': '.txt'}
+        file = (root / name).with_suffix(shows[command])
         if not file.is_file() or re.sub(r'(?m)^    ', '', shown) != file.read_text():
             yield f'README.md: `{command} {name}` shows something else than {file.relative_to(root)}'
 

@@ -97,6 +97,7 @@ PLANTED = [
     ({**SAMPLE, 'examples/x.txt': 'a\nb\n'}, '`cat examples/x.txt` shows something else'),
     ({**SAMPLE, 'examples/x.out': 'c\n\n'}, '`./seldump examples/x.txt` shows something else'),
     ({'README.md': SAMPLE['README.md']}, '`./seldump examples/x.txt` shows something else'),
+    ({'README.md': SAMPLE['README.md'].replace('seldump examples/x.txt', 'selmake examples/x.entries'), 'examples/x.txt': 'a\n'}, '`./selmake examples/x.entries` shows something else'),
     (PAIR | {'docs/SCOPE.md': PAIR['docs/SCOPE.md'].replace('01', '02')}, '`00 AA` and `02 AA`: no answer'),
     (PAIR | {'crates/replay/stdout': '0\n0 00\n'}, '`00 AA` and `01 AA`: no answer'),
     ({'docs/SCOPE.md': PAIR['docs/SCOPE.md']}, '`00 AA` and `01 AA`: no answer'),

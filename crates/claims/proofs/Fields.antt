@@ -125,7 +125,7 @@ system-fields s =
     }
 
 module _ (s : List ℕ) (r : ParsedEntry) (p : Promised AnswerKind.Entry r s) (long : 16 ≤ length s) where
-  system-is : byteAt s 2 ≡ 0x02 → validChannel (bits 7 4 (byteAt s 8)) ≡ true → r ≡ systemBy (generatorAt (byteAt s 7) (byteAt s 8)) s
+  system-is : byteAt s 2 ≡ 0x02 → validChannel (bits 7 4 (byteAt s 8)) ≡ true → r ≡ systemBy (keptAt s) s
   system-is t v = p .decoded ∙ parsed-system validChannel s long t v
 
   stamped-is : 0xC0 ≤ byteAt s 2 → byteAt s 2 ≤ 0xDF → r ≡ stampedRecord s
@@ -210,7 +210,7 @@ fate s = by (ltb (length s) 16) (eqb (typeAt s) 0x02) (validChannel (channelIn s
   where
     by : (short two valid stamped plain : Bool)
         → Fate (if short then refusedFor (ParseEntryError.NotEnoughData 16) else
-        if two then (if valid then systemBy (generatorAt (byteAt s 7) (byteAt s 8)) s else refusedFor (ParseEntryError.InvalidChannel (channelIn s))) else
+        if two then (if valid then systemBy (keptAt s) s else refusedFor (ParseEntryError.InvalidChannel (channelIn s))) else
         if stamped then stampedRecord s else
         if plain then plainRecord s else
         refusedFor (ParseEntryError.UnknownRecordType (typeAt s)))

@@ -1,6 +1,7 @@
 """What the port has to answer: the Rust's answer, and the model's where it has one. Where both have one, the model's mapped back by model.ported, and by nothing
 else, must be the Rust's. The Rust has no versions, and its rule is that of 2.0: of a question with a version it is asked what follows, and under 1.5 its answer
-is narrowed first, as channels 8h to Bh are reserved there. Nor has it a writer: of an entry to write it is asked what it reads from the model's sixteen bytes."""
+is narrowed first, as channels 8h to Bh are reserved there. Nor has it a writer: of an entry to write, with the bytes that it keeps or without, it is asked what it
+reads from the model's sixteen bytes, and of a record to write again what it reads from that."""
 
 import sys
 
@@ -11,13 +12,15 @@ from rust import stop
 BOTH = ("=", *model.NEEDED)  # the kinds of questions to the Rust that both answer
 PANIC = "panic"
 
+# What is to be written, by its letter: from the bytes of the question the record that the Rust is asked about.
+WRITERS = {"M": lambda data: model.written(data[2:15], data[15:]), "N": lambda data: model.written_with(data[2:7], data[7:]), "K": lambda data: data[2:]}
+
 
 def put(question):
-    """The question that the Rust is asked: without its version where that is a named one, of an entry to write its sixteen bytes, and else as it stands."""
+    """The question that the Rust is asked: without its version where that is a named one, of what is to be written the record, and else as it stands."""
     kind, _, digits = question.partition(" ")
-    if kind == "M" and model.answer(question) != "?":
-        data = bytes.fromhex(digits)
-        return f"e {model.written(data[2:15], data[15:]).hex().upper()}"
+    if kind in WRITERS and model.answer(question) != "?":
+        return f"e {WRITERS[kind](bytes.fromhex(digits)).hex().upper()}"
     if kind not in model.VERSIONED or model.answer(question) in ("?", model.UNNAMED):
         return question
     return f"{model.VERSIONED[kind][0]} {digits[2:]}"
@@ -34,8 +37,22 @@ def narrowed(question, rust):
 
 
 def is_read_back(question, entry):
-    """Whether an answer to e is the entry that an M, behind the room, asks to write."""
-    return entry[:2] == "0 " and model.asked_entry(bytes.fromhex(entry[2:])) == bytes.fromhex(question[2:])[2:]
+    """Whether an answer to e is the entry that an M asks to write, behind the room, or an N, behind what it keeps."""
+    if entry[:2] != "0 ":
+        return False
+    data, flat = bytes.fromhex(question[2:]), bytes.fromhex(entry[2:])
+    return model.asked_entry(flat) == data[2:] if question[0] == "M" else flat == data[7:]
+
+
+def is_written_again(question, entry):
+    """Whether a K is answered as an answer to e says: by the same refusal, or by the entry written, which if it is of the system keeps bytes of the record."""
+    answer, record = model.answer(question), bytes.fromhex(question[2:])[2:]
+    if entry[:2] != "0 ":
+        return answer == entry
+    flat = bytes.fromhex(entry[2:])
+    asked = model.asked_entry(flat)
+    again = model.written_with(model.kept_of(record), flat) if flat[0] == model.SYSTEM else model.written(asked[:13], asked[13:])
+    return answer in ("0 " + again.hex().upper(), "4 0010")
 
 
 def due(question, rust):
@@ -44,9 +61,12 @@ def due(question, rust):
     answer = rust if modelled is None else modelled
     if asked.partition(" ")[0] not in BOTH or is_panic(question, rust):
         return answer
-    if question.startswith("M "):
+    if question[0] in "MN":
         # the second way to say 7: model and Rust read the bytes alike, and not as that entry
         agree = model.answer(asked) == rust and is_read_back(question, rust) == (answer != "7")
+    elif question[0] == "K":
+        # the second way to say that the bytes stay: they are those of the entry that the Rust reads
+        agree = is_written_again(question, due(asked, rust))
     else:
         # a bare 1 is the Rust's alone: the model says what was short, and with a version it says every refusal
         untold = answer == "1" or modelled is None and asked != question and rust[:2] != "0 "

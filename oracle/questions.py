@@ -1,15 +1,19 @@
 """The questions of the program `replay`, in the order of crates/replay/stdin.
 
-Their answers, crates/replay/stdout, come from four places: from model.py for lines that begin with p, w, s, D, V, L, M or `ported`, which the Rust
+Their answers, crates/replay/stdout, come from four places: from model.py for lines that begin with p, w, s, D, V, L, M, K, N or `ported`, which the Rust
 does not have, for what is refused by its length or by a reservation of 0, which it tells less of, and for what E and G refuse, as it knows no versions (judge.py:
 mapped back it must be the Rust's, which is asked e and g of what follows the version, and answers so what E and G accept; of lines
 that begin with e or = the two must say the same, and so must s and t of the times, and D and d, V and v of the event types, that the rules leave alone; what M
-writes both must read as the entry that was asked for); from dump.py for
+and N write both must read as the entry that was asked for, and what K writes must be the entry that the Rust reads); from dump.py for
 the words `entry` and `answer`, whose accepted answers are lines of `seldump`, out of the Rust's own answers; from panics.txt where the Rust panics, which the model
 must say too; from the Rust for every other line. That a line is no question, `?`, is said by the program that asks the Rust (src/main.rs), or by model.py.
 """
 
+import hashlib
+import re
+
 import model
+from rust import ROOT
 
 
 def question(kind, data):
@@ -357,7 +361,7 @@ def pairs():
 
 
 # Entries to write, by the fields of the question in their order; these fields have more than a byte, and of the OEM bytes the first is the lowest.
-SIZES = {"room": 2, "oem": 13, "id": 2, "time": 4, "maker": 4}
+SIZES = {"room": 2, "oem": 13, "kept": 5, "id": 2, "time": 4, "maker": 4}
 SYSTEM = {
     "room": 16, "oem": 0, "head": 0, "id": 1, "time": 1000, "generator": 0, "sender": 0x10, "channel": 0x0, "unit": 2, "revision_kind": 0, "revision": 0x04,
     "sensor": 0x01, "number": 0x30, "direction": 0, "event_type": 0x01, "offset": 9, "kind2": 1, "value2": 0x5A, "kind3": 1, "value3": 0x55,
@@ -430,6 +434,91 @@ def entries_of_records(asked):
     """Of every record of kind e that is accepted the entry to write, each once."""
     entries = (model.answer(line) for line in asked if line[:2] == "e ")
     yield from dict.fromkeys(entry_to_write(bytes.fromhex(entry[2:])) for entry in entries if entry[:2] == "0 ")
+
+
+# Records of the system to keep bytes of: by an address and by a software id, with each kind of event data; with no bit set, and with all.
+KEEPING = [*COMPARED[:16:5], *COMPARED[16:18]]
+KEPT_BITS = [8 * place + bit for place in (7, 8, 13, 14, 15) for bit in range(8)]
+
+
+def any_bytes(number, length):
+    """Without order, but the same each time."""
+    return hashlib.sha256(b"%d" % number).digest()[:length]
+
+
+def any_record(number):
+    """By number a record of the system, two times of four, an OEM record or one of any type."""
+    record = any_bytes(number, 16)
+    return changed(record, 2, (0x02, 0x02, 0xC0 | record[2], record[2])[number % 4])
+
+
+def records_to_keep():
+    """With what no field holds, set and not: every channel above all values of the four bits, and above some by a software id; event data under every pair of kinds,
+    with values at the edges; those above."""
+    for record, lows in ((RECORD, range(16)), (BY_SOFTWARE, (0x0, 0x1, 0x4, 0x8, 0xF))):
+        yield from (changed(record, 8, channel << 4 | low) for channel in range(16) for low in lows)
+    yield from (RECORD[:13] + bytes([kinds << 4 | 0x09, second, third]) for kinds in range(16) for second in EDGES for third in EDGES)
+    yield from KEEPING
+
+
+def records_of_examples():
+    """The records of the captures in examples/; a line that is none has no record."""
+    for path in sorted((ROOT / "examples").glob("*.txt")):
+        yield from map(bytes.fromhex, re.findall(r"(?m) record=([0-9A-F]{32})$", path.read_text()))
+
+
+def again(record, room=16):
+    return question("K", word(room) + record)
+
+
+def records_again():
+    """Rooms, also of what is refused, as 4 comes last; types, with a channel that is none too; lengths; what no field holds, and each bit of what is kept flipped;
+    damages; the records of the captures; any."""
+    refused = [changed(RECORD, 2, 0x03), changed(RECORD, 8, 0xC0), changed(BY_SOFTWARE, 8, 0xDF), RECORD[:15], b""]
+    yield from (again(record, room) for record in (RECORD, COMPARED[17], OEM_TIMED, OEM_PLAIN, RECORD + mixed(5), *refused) for room in ROOMS)
+    for record_type in (0x00, 0x01, 0x02, 0x03, 0xBF, 0xC0, 0xDF, 0xE0, 0xFF):
+        yield from (again(changed(changed(RECORD, 2, record_type), 8, channel), room) for channel in (0x00, 0xC0) for room in (15, 16))
+    yield from (question("K", (word(16) + RECORD + mixed(length))[:length]) for length in range(41))
+    yield from map(again, (*records_to_keep(), *(flipped(record, [bit]) for record in KEEPING for bit in KEPT_BITS)))
+    yield from damaged("K", word(16) + RECORD)
+    yield from map(again, (*records_of_examples(), *map(any_record, range(150))))
+
+
+def keeping(flat, record):
+    """The fields of the question for an entry, by its flat bytes, and what is kept of a record; of that the first byte is the lowest, as of the OEM bytes."""
+    return {"room": 16, "kept": model.number(model.kept_of(record)), "head": flat[0], "id": model.number(flat[1:3]), "time": model.number(flat[3:7]),
+            **model.Event(*flat[7:])._asdict()}
+
+
+def parsed_from(record, other=None):
+    """The entry of a record, with what is kept of it, or of another."""
+    return keeping(model.entry(record), other or record)
+
+
+def made_of(fields):
+    """An entry, with what is kept of the record that is written for its fields; bits past a bound are not in that."""
+    head = joined({name: value for name, value in fields.items() if name not in ("room", "oem", "kept")})
+    return keeping(head, model.written(b"", head))
+
+
+def kept_entries():
+    """What is kept and fields that follow, also with a channel that is none; what is kept of another record, which differs in a bit or in an event data byte; another
+    field, also past its bound; each bound, with what follows from the fields; what is no entry, alone, and where else 7 or 4 is due; rooms, also of what is 7,
+    which comes before 4, and of what is no entry; OEM entries; damages; any."""
+    good, software = [*map(parsed_from, KEEPING)], [{"generator": 1, "unit": 0}]
+    refused = [parsed_from(changed(RECORD, 8, 0xC0)), *with_each([{"sender": 0x7F}, {"sender": 128}, {"channel": 0xC}, {"unit": 4}, {"head": 3}], good[:1])]
+    for fields in (*map(parsed_from, records_to_keep()), *(parsed_from(record, flipped(record, [bit])) for record in KEEPING for bit in KEPT_BITS),
+                   *(parsed_from(one, other) for one, other in data_pairs()), *with_each(BOUNDS + software, good[:4]),
+                   *map(made_of, with_each(BOUNDS, (fields for fields in WRITTEN if fields["head"] == 0))),
+                   *with_each([*NO_ENTRY, {"head": 1}, {"head": 2}], good[:2]), *with_each(NO_ENTRY, with_each([{"sender": 128, "room": 0}], good[:1])),
+                   *with_each([{"room": room} for room in ROOMS], good + refused)):
+        yield question("N", joined(fields))
+    for flat in map(model.entry, (OEM_TIMED, OEM_PLAIN)):  # these keep nothing
+        yield from (question("N", word(16) + bytes(5) + head) for head in (flat, flat[:model.HEAD[flat[0]]]))
+    yield from damaged("N", joined(good[0]))
+    for record in (changed(any_record(number), 2, 0x02) for number in range(150)):
+        bits = {KEPT_BITS[byte % 40] for byte in any_bytes(model.number(record), record[0] % 3)}
+        yield question("N", joined(parsed_from(record, flipped(record, bits))))
 
 
 LAST = 0xFFFF
@@ -530,20 +619,20 @@ def parsed(asked):
             yield name + line[1:]
 
 
-LETTERS = "eygpiarcdvDVLEGMxtsnqw="
+LETTERS = "eygpiarcdvDVLEGMKNxtsnqw="
 WORDED = ("channel", "unit", "ported")
-FIXED = {"d": 3, "v": 3, "D": 4, "V": 4, "L": 5, "x": 3, "t": 4, "s": 4, "n": 2, "channel": 1, "unit": 1, "ported": 6, "=": 32}
+FIXED = {"d": 3, "v": 3, "D": 4, "V": 4, "L": 5, "x": 3, "t": 4, "s": 4, "n": 2, "channel": 1, "unit": 1, "ported": 6, "=": 32, "N": 29}
 
 
 def malformed():
     """What answers `?`, as far as it stands in one line."""
+    whole = {"M": joined(SYSTEM), "K": word(16) + RECORD, "N": joined(parsed_from(RECORD))}
     yield ""
     yield from (chr(c) for c in (0x00, 0x09, 0x0D, 0x20, 0x7F, 0xE9))
     for kind in (*LETTERS, *WORDED, *PARSERS.values()):
         lines = (kind, kind + "00", kind.upper() + " 00", kind + kind + " 00", f" {kind} 00", f"{kind}  00", f"{kind}\t00", f"{kind}:00")
         yield from (line for line in lines if line not in ("E 00", "G 00"))  # these two have a version, so they are questions
-        data = joined(SYSTEM) if kind == "M" else bytes([0xAB]) * FIXED.get(kind, 18)
-        good = question(kind, data)
+        good = question(kind, whole.get(kind, bytes([0xAB]) * FIXED.get(kind, 18)))
         yield from (good + "0", good.lower(), good + " ", good + "\r", good + "\0", good + " 00", good[:-1] + "G", good[:-1] + "/", good[:-1] + ":",
                     good[:-1] + "@", good[:-1] + "`", good[:-1] + "\xE9", good.replace(" ", " 0x"))
     for kind, count in FIXED.items():
@@ -558,13 +647,16 @@ def longest():
     """The most digits that a question can have, and two more."""
     yield question("a", mixed(60_100))
     yield question("a", mixed(60_101))
+    yield again(RECORD + mixed(60_100 - 18))
+    yield again(RECORD + mixed(60_101 - 18))
 
 
 LETTERED = [
     *channels_and_units(), *time_texts(), *allocations(), *event_data(), *typed_data(), *event_texts(),
     *lengths(), *lengths_alone(), *mapped_back(), *eight_answers(), *fields(), *timed_records(), *typed_records(), *unspecified_records(), *oem_records(),
     *damages(), *version_bytes(), *versioned_channels(), *versioned_types(), *versioned_lengths(), *versioned_damages(), *texts_of_records(),
-    *pairs(), *entries_to_write(), *record_ids(), *requests(), *small_walks(), *walk_edges(), *long_walks(), *malformed(), *longest(),
+    *pairs(), *entries_to_write(), *dict.fromkeys((*records_again(), *kept_entries())),
+    *record_ids(), *requests(), *small_walks(), *walk_edges(), *long_walks(), *malformed(), *longest(),
 ]
 
 ASKED = [*LETTERED, *entries_of_records(LETTERED), *parsed(LETTERED)]

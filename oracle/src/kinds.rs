@@ -80,6 +80,7 @@ fn entry_bytes(entry: &Entry) -> Vec<u8> {
             event_direction,
             event_type,
             event_data,
+            ..
         } => {
             flat.push(0);
             flat.extend(record_id.value().to_le_bytes());

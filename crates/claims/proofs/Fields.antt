@@ -29,7 +29,7 @@ use Rattle.event_message.specs.Message.{directionOf, revisionOf}
 use Rattle.event_message.specs.declared.EventDirection.{EventDirection}
 use Rattle.event_message.specs.declared.EventGenerator.{EventGenerator}
 use Rattle.event_message.specs.declared.EventMessageRevision.{EventMessageRevision}
-use Rattle.sel.specs.Entry.{channelIn, noOem, parseEntry, plainRecord, refusedFor, stampedRecord, systemBy, systemRecord, typeAt}
+use Rattle.sel.specs.Entry.{channelIn, keptAt, noOem, parseEntry, plainRecord, refusedFor, stampedRecord, systemBy, systemRecord, typeAt}
 use Rattle.sel.specs.declared.Entry.{Entry}
 use Rattle.sel.specs.declared.EntryAnswer.{EntryAnswer}
 use Rattle.sel.specs.declared.ParseEntryError.{ParseEntryError}

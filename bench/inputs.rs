@@ -139,6 +139,10 @@ fn entries(records: &[Vec<u8>]) -> Vec<Row> {
     ]
 }
 
+fn accepted(bytes: &[u8]) -> String {
+    bytes.iter().fold("0 ".into(), |said, byte| format!("{said}{byte:02X}"))
+}
+
 /// By SCOPE's places of a record: its sixteen bytes, from the flat bytes of an entry.
 fn written_answer(flat: &[u8]) -> String {
     let value = |kind: usize| if flat[kind] == 0 { 0xFF } else { flat[kind + 1] };
@@ -156,7 +160,22 @@ fn written_answer(flat: &[u8]) -> String {
         1 => [&flat[1..11], &flat[12..]].concat(),
         _ => flat[1..].to_vec(),
     };
-    record.iter().fold("0 ".into(), |said, byte| format!("{said}{byte:02X}"))
+    accepted(&record)
+}
+
+/// Of a system record its generator and its event data.
+fn kept(record: &[u8]) -> Vec<u8> {
+    [&record[7..9], &record[13..16]].concat()
+}
+
+fn kept_answer(record: &[u8]) -> String {
+    if record[2] == 2 { accepted(&kept(record)) } else { "0".into() }
+}
+
+/// By the same places, but that the kept bytes, which stand first, are put where they came from.
+fn written_kept_answer(entry: &[u8]) -> String {
+    let (kept, flat) = entry.split_at(5);
+    accepted(&[&flat[1..3], &[2], &flat[3..7], &kept[..2], &flat[12..15], &[flat[15] << 7 | flat[16]], &kept[2..]].concat())
 }
 
 fn written(records: &[Vec<u8>]) -> Vec<Row> {
@@ -164,9 +183,15 @@ fn written(records: &[Vec<u8>]) -> Vec<Row> {
         let inputs = records.iter().map(|record| flat(record)).collect();
         of_ours(name.into(), inputs, 0, ours::write_entry, (written_answer, answers::write_entry))
     };
+    let (systems, oems) = (those(records, |record| record[2] == 2), those(records, |record| record[2] != 2));
+    let with_kept = systems.iter().map(|record| [kept(record), flat(record)].concat()).collect();
+    let keep = |name: &str, records| of_ours(name.into(), records, 0, ours::keep, (kept_answer, answers::keep));
     vec![
-        entry("entry written, system", those(records, |record| record[2] == 2)),
-        entry("entry written, OEM", those(records, |record| record[2] != 2)),
+        entry("entry written, system", systems.clone()),
+        entry("entry written, OEM", oems.clone()),
+        keep("bytes kept, system", systems),
+        keep("bytes kept, OEM", oems),
+        of_ours("entry written with the bytes kept".into(), with_kept, 0, ours::write_kept, (written_kept_answer, answers::write_kept)),
     ]
 }
 
@@ -223,7 +248,7 @@ fn typed(data: &[u8]) -> [u8; 5] {
 }
 
 fn typed_answer(data: &[u8]) -> String {
-    typed(data).iter().fold("0 ".into(), |said, byte| format!("{said}{byte:02X}"))
+    accepted(&typed(data))
 }
 
 fn typed_text_answer(data: &[u8]) -> String {

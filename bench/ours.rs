@@ -49,6 +49,10 @@ pub struct Walk {
 extern "C" {
     fn sel_entry(data: *const u8, data_length: usize, out: *mut u8, out_length: usize) -> Answer;
     fn sel_write_entry(flat: *const u8, flat_length: usize, out: *mut u8, out_length: usize) -> Answer;
+    fn sel_keep(data: *const u8, data_length: usize, out: *mut u8, out_length: usize) -> Answer;
+    fn sel_write_kept(
+        kept: *const u8, kept_length: usize, flat: *const u8, flat_length: usize, out: *mut u8, out_length: usize,
+    ) -> Answer;
     fn sel_same_entry(a: *const u8, a_length: usize, b: *const u8, b_length: usize) -> Same;
     fn sel_get_entry(data: *const u8, data_length: usize, out: *mut u8, out_length: usize) -> Answer;
     fn sel_entry_of(version: u8, data: *const u8, data_length: usize, out: *mut u8, out_length: usize) -> Answer;
@@ -112,6 +116,12 @@ macro_rules! calls {
 calls! {
     entry, hex: |data, room| sel_entry(data.as_ptr(), data.len(), room.out.as_mut_ptr(), room.out.len());
     write_entry, hex: |flat, room| sel_write_entry(flat.as_ptr(), flat.len(), room.out.as_mut_ptr(), room.out.len());
+    keep, hex: |data, room| sel_keep(data.as_ptr(), data.len(), room.out.as_mut_ptr(), room.out.len());
+    // The five kept bytes of a system entry, and then its flat bytes.
+    write_kept, hex: |entry, room| {
+        let (kept, flat) = entry.split_at(5);
+        sel_write_kept(kept.as_ptr(), kept.len(), flat.as_ptr(), flat.len(), room.out.as_mut_ptr(), room.out.len())
+    };
     same, sameness: |records, room| {
         let (a, b) = records.split_at(16);
         sel_same_entry(a.as_ptr(), a.len(), b.as_ptr(), b.len())

@@ -39,10 +39,30 @@ typedef struct SelAnswer {
  * 1 with 16 under 16 bytes; 2 with the type for any other type; 3 with the channel for a system event on channel Ch or Dh; then 4. */
 SelAnswer sel_entry(const uint8_t *data, size_t data_length, uint8_t *out, size_t out_length);
 
-/* The record of an entry, which is given by the flat bytes that sel_entry writes of it. Writes the record's 16 bytes,
- * which sel_entry decodes to these flat bytes again. Those of an OEM record are the very ones that it was decoded from.
+/* What an entry keeps of its record beside what sel_entry tells: the bytes of which some bits are no field's. Writes, of a
+ * system event, bytes 7, 8, 13, 14 and 15 of the record as they stand, five bytes (the generator's two, and event data);
+ * of an OEM record, all of which sel_entry tells, none. Refused as sel_entry refuses the record: 1, 2, 3; then 4 with 5. */
+#define SEL_KEPT 5
+SelAnswer sel_keep(const uint8_t *data, size_t data_length, uint8_t *out, size_t out_length);
+
+/* The record of an entry, which is given by the flat bytes that sel_entry writes of a record and the kept bytes that
+ * sel_keep writes of it. Writes the record's 16 bytes: of what both wrote of one record, its first sixteen, as they were.
+ * sel_entry and sel_keep give the same flat and kept bytes of them again.
+ * 7 exactly if there is no record of which sel_entry gives these flat bytes and sel_keep these kept bytes; then 4 with
+ * 16. So 7 is told wherever sel_write_entry tells it, of any number of kept bytes but five with a system event and none
+ * with an OEM record, and where they disagree: bit 0 of the first kept byte with the generator (0 for an address, 1 for
+ * a software id), its bits 7 to 1 with the address or software id, bits 7 to 4 of the second with the channel and, of an
+ * address, its bits 1 to 0 with the unit; bits 3 to 0 of the third with the offset, and with event data bytes 2 and 3
+ * its bits 7 to 6 and the fourth, and its bits 5 to 4 and the fifth (kind and value, or kind 0 where the bits are 00 or
+ * the kept value is FFh). */
+SelAnswer sel_write_kept(const uint8_t *kept, size_t kept_length, const uint8_t *flat, size_t flat_length, uint8_t *out,
+                         size_t out_length);
+
+/* A record made from fields: the flat bytes that sel_entry writes of an entry. Writes the record's 16 bytes, which
+ * sel_entry decodes to these flat bytes again. Those of an OEM record are the very ones that it was decoded from.
  * Those of a system event have 0 in each bit that no field holds (bits 3 to 2 of byte 8, and 1 to 0 behind a software
- * id), and event data that is unspecified as kind 00 and value FFh, whatever they were decoded from.
+ * id), and event data that is unspecified as kind 00 and value FFh, whatever they were decoded from: sel_write_kept is
+ * for a record that is to come back as it was.
  * 7 exactly if sel_entry decodes no record to these flat bytes; then 4 with 16. So 7 is told of a first byte over 02,
  * of another number of bytes than the first byte has (22 for 00, 18 for 01, 17 for 02), and
  *   of a system event: a generator or a direction over 01; an address or a software id over 127; channel Ch, Dh or
@@ -54,7 +74,7 @@ SelAnswer sel_write_entry(const uint8_t *flat, size_t flat_length, uint8_t *out,
 
 /* number:  0, or the number that sel_entry refuses the record with: 1, 2 or 3.
  * value:   what that carries: 16 where it is 1, the record type where it is 2, the channel where it is 3; else 0.
- * same:    1 exactly if both records are accepted and their entries are equal; else 0.
+ * same:    1 exactly if both records are accepted and the fields of their entries are equal, whatever they keep; else 0.
  * refused: which record is refused, 1 for a or 2 for b; 0 where neither is. */
 typedef struct SelSame {
     uint32_t number;
@@ -63,7 +83,7 @@ typedef struct SelSame {
     uint32_t refused;
 } SelSame;
 
-/* Whether two records have equal entries, each of 16 bytes or more; those behind the sixteenth are not looked at. Two system events have, exactly if bytes
+/* Whether two records have equal entries, by their decoded fields, each of 16 bytes or more; those behind the sixteenth are not looked at. Two system events have, exactly if bytes
  * 0 to 7 and 9 to 12 agree, the channel agrees (bits 7 to 4 of byte 8), the unit agrees where byte 7 is an address (bits 1 to 0 of byte 8), the offset
  * agrees (bits 3 to 0 of byte 13), and byte 14 with its kind (bits 7 to 6 of byte 13), and byte 15 with its kind (bits 5 to 4), either agrees or is
  * unspecified in both, which it is under kind 00 and as FFh. Two OEM records have, exactly if all sixteen bytes agree. So what is overlooked is: bits 3

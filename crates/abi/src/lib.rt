@@ -30,6 +30,7 @@ ghost use mathlib.Core.List.{[], _∷_};
 ghost use Rattle.field.specs.Handed.{handed, ported};
 ghost use Rattle.flat_form.specs.Form.{Gives, refusal};
 ghost use Rattle.flat_record.specs.Records.{entryFlat, entryFlatOf, getEntryFlat, getEntryFlatOf};
+ghost use Rattle.flat_writer.specs.Kept.{keptFlat, writtenKept};
 ghost use Rattle.flat_writer.specs.Written.{writtenFlat};
 ghost use Rattle.flat_answers.specs.Answers.{allocationFlat};
 ghost use Rattle.flat.specs.Kinds.{flatOf};
@@ -45,12 +46,28 @@ pub extern "C" fn sel_entry(data: &[u8], out: &mut [u8]) -> SelAnswer
     flat_record::entry(data, out)
 }
 
-// Writes the record of an entry by its flat bytes.
+// The bytes that the entry of a record keeps.
+#[no_mangle]
+pub extern "C" fn sel_keep(data: &[u8], out: &mut [u8]) -> SelAnswer
+    ensures { λ r. ⌜ Gives (keptFlat (now («data» .entry))) (now (out .entry)) r (now (out .exit)) ⌝ }
+{
+    flat_writer::kept::keep(data, out)
+}
+
+// Writes the record of an entry by its flat bytes: it is made from fields.
 #[no_mangle]
 pub extern "C" fn sel_write_entry(flat: &[u8], out: &mut [u8]) -> SelAnswer
     ensures { λ r. ⌜ Gives (writtenFlat (now (flat .entry))) (now (out .entry)) r (now (out .exit)) ⌝ }
 {
     flat_writer::entry(flat, out)
+}
+
+// The same by its flat bytes and what it keeps.
+#[no_mangle]
+pub extern "C" fn sel_write_kept(kept: &[u8], flat: &[u8], out: &mut [u8]) -> SelAnswer
+    ensures { λ r. ⌜ Gives (writtenKept (now (kept .entry)) (now (flat .entry))) (now (out .entry)) r (now (out .exit)) ⌝ }
+{
+    flat_writer::kept::entry_kept(kept, flat, out)
 }
 
 // The answer to Get SEL Entry.

@@ -1,4 +1,4 @@
-// The letters that are answered with flat bytes: those of the crate `flat`, and M, which has its room in the question.
+// The letters that are answered with flat bytes: those of the crate `flat`, and M, N and K, which have their room in the question.
 use crate::say::say;
 use crate::say::say_bytes;
 use crate::say::say_refusal;
@@ -25,10 +25,12 @@ pub(crate) fn ask(letter: u8, data: &[u8]) {
 }
 
 fn answer_to(letter: u8, data: &[u8], out: &mut [u8]) -> SelAnswer {
-    if letter == b'M' {
-        return flat_writer::made(data, out);
+    match letter {
+        b'M' => flat_writer::made(data, out),
+        b'N' => flat_writer::kept::made_kept(data, out),
+        b'K' => flat_writer::kept::again(data, out),
+        _ => flat::flat(letter, data, out),
     }
-    flat::flat(letter, data, out)
 }
 
 // The flat bytes in hexadecimal, or a text as it is.

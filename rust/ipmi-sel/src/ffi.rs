@@ -45,6 +45,15 @@ mod library {
     extern "C" {
         pub fn sel_entry(data: *const u8, data_length: usize, out: *mut u8, out_length: usize) -> Answer;
         pub fn sel_write_entry(flat: *const u8, flat_length: usize, out: *mut u8, out_length: usize) -> Answer;
+        pub fn sel_keep(data: *const u8, data_length: usize, out: *mut u8, out_length: usize) -> Answer;
+        pub fn sel_write_kept(
+            kept: *const u8,
+            kept_length: usize,
+            flat: *const u8,
+            flat_length: usize,
+            out: *mut u8,
+            out_length: usize,
+        ) -> Answer;
         pub fn sel_same_entry(a: *const u8, a_length: usize, b: *const u8, b_length: usize) -> Same;
         pub fn sel_get_entry(data: *const u8, data_length: usize, out: *mut u8, out_length: usize) -> Answer;
         pub fn sel_entry_of(version: u8, data: *const u8, data_length: usize, out: *mut u8, out_length: usize) -> Answer;
@@ -98,6 +107,14 @@ pub(crate) fn entry(data: &[u8], out: &mut [u8]) -> Answer {
 
 pub(crate) fn write_entry(flat: &[u8], out: &mut [u8]) -> Answer {
     unsafe { library::sel_write_entry(flat.as_ptr(), flat.len(), out.as_mut_ptr(), out.len()) }
+}
+
+pub(crate) fn keep(data: &[u8], out: &mut [u8]) -> Answer {
+    unsafe { library::sel_keep(data.as_ptr(), data.len(), out.as_mut_ptr(), out.len()) }
+}
+
+pub(crate) fn write_kept(kept: &[u8], flat: &[u8], out: &mut [u8]) -> Answer {
+    unsafe { library::sel_write_kept(kept.as_ptr(), kept.len(), flat.as_ptr(), flat.len(), out.as_mut_ptr(), out.len()) }
 }
 
 pub(crate) fn same_entry(a: &[u8], b: &[u8]) -> Same {

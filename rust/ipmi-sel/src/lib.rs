@@ -4,7 +4,8 @@
 //!
 //! The names and signatures are those of ipmi-rs-core 0.6.0; [`capture`], [`Refusal`], [`Request`], [`storage::Timestamp::log_text`],
 //! [`storage::sdr::TypedData`], [`connection::Version`] with the two functions that take it, and
-//! [`storage::sel::Entry::to_bytes`] with [`NoSuchRecord`] are added. README.md says what differs.
+//! [`storage::sel::Entry::to_bytes`] with [`storage::sel::Kept`], [`storage::sel::Entry::remade`] and [`NoSuchRecord`]
+//! are added. README.md says what differs.
 
 pub mod capture;
 pub mod connection;

@@ -101,7 +101,7 @@ impl From<Answer> for NotEnoughData {
     }
 }
 
-/// No record parses to the entry. Not in ipmi-rs-core, which writes no records.
+/// No record parses to the entry, with the bytes that it keeps. Not in ipmi-rs-core, which writes no records.
 #[derive(Debug, Clone, Copy, PartialEq, Eq)]
 pub struct NoSuchRecord;
 

@@ -12,8 +12,8 @@ use ipmi_sel::capture::{
 use ipmi_sel::connection::{Channel, ChannelNumber, LogicalUnit, Version};
 use ipmi_sel::storage::sdr::{decode_event, EventData, SensorType, TypedData, TypedData2, TypedData3};
 use ipmi_sel::storage::sel::{
-    ClearSel, Entry, EventDirection, EventGenerator, EventMessageRevision, GetSelEntry, GetSelInfo, ParseEntryError, RecordId, ReserveSel,
-    SelAllocInfo, SelGetAllocInfo, SelInfo,
+    ClearSel, Entry, EventDirection, EventGenerator, EventMessageRevision, GetSelEntry, GetSelInfo, Kept, ParseEntryError, RecordId,
+    ReserveSel, SelAllocInfo, SelGetAllocInfo, SelInfo,
 };
 use ipmi_sel::storage::{AllocInfo, Timestamp};
 use ipmi_sel::Refusal;
@@ -80,13 +80,15 @@ fn check_refusal(kind: AnswerKind, bytes: &[u8], error: Option<ParseEntryError>)
     assert_eq!(refused.map(ParseEntryError::from), error);
 }
 
-/// The entries of records: each is written as a record of the same entry, an OEM record as it was.
+/// The entries of records: each is written as its record. Remade, it is written as a record of the same entry, an OEM
+/// record as it was.
 #[test]
 fn written_records() {
     let mut written = 0;
     each_answer(|bytes| {
         let Ok(entry) = Entry::parse(bytes) else { return };
-        let record = entry.to_bytes().unwrap();
+        assert_eq!(entry.to_bytes().unwrap(), bytes[..16], "{bytes:02X?}");
+        let record = entry.clone().remade().to_bytes().unwrap();
         assert_eq!(same_entry(&record, bytes), Ok(true), "{bytes:02X?}");
         assert!(bytes[2] == 0x02 || record == bytes[..16], "{bytes:02X?}");
         assert_eq!(Entry::parse(&record), Ok(entry), "{bytes:02X?}");
@@ -98,6 +100,32 @@ fn written_records() {
 /// A byte, that in half of the cases has no bit 7.
 fn small(dice: &mut Dice) -> u8 {
     dice.byte() >> dice.below(2)
+}
+
+/// A system entry of any fields, and whether a record has them.
+fn any_system(dice: &mut Dice, record_id: RecordId, timestamp: Timestamp) -> (Entry, bool) {
+    let (id, event_type, offset, byte) = (small(dice), small(dice), small(dice) >> 3, dice.byte() % 8);
+    let channel_number = Channel::new(dice.byte() % 12).unwrap();
+    let generator_id = match dice.below(2) {
+        0 => EventGenerator::RqSAAndLun { i2c_addr: id, channel_number, lun: LogicalUnit::from_low_bits(dice.byte()) },
+        _ => EventGenerator::SoftwareId { software_id: id, channel_number },
+    };
+    let known = [EventMessageRevision::V2_0, EventMessageRevision::V1_0];
+    let event_message_format = [known[dice.below(2)], EventMessageRevision::Unknown(byte)][dice.below(2)];
+    let unknown = matches!(event_message_format, EventMessageRevision::Unknown(3 | 4));
+    let entry = Entry::System {
+        record_id,
+        timestamp,
+        generator_id,
+        event_message_format,
+        sensor_type: dice.byte(),
+        sensor_number: dice.byte(),
+        event_direction: [EventDirection::Assert, EventDirection::Deassert][dice.below(2)],
+        event_type,
+        event_data: EventData { offset, ..EventData::parse(&[dice.byte(), dice.byte(), dice.byte()]) },
+        kept: Kept::FROM_FIELDS,
+    };
+    (entry, id <= 127 && event_type <= 127 && offset <= 15 && !unknown)
 }
 
 /// An entry of any fields, and whether a record has them.
@@ -113,29 +141,7 @@ fn any_entry(dice: &mut Dice) -> (Entry, bool) {
             (Entry::OemTimestamped { record_id, ty, timestamp, manufacturer_id, data }, has_record)
         }
         1 => (Entry::OemNotTimestamped { record_id, ty, data: std::array::from_fn(|_| dice.byte()) }, ty >= 0xE0),
-        _ => {
-            let (id, event_type, offset, byte) = (small(dice), small(dice), small(dice) >> 3, dice.byte() % 8);
-            let channel_number = Channel::new(dice.byte() % 12).unwrap();
-            let generator_id = match dice.below(2) {
-                0 => EventGenerator::RqSAAndLun { i2c_addr: id, channel_number, lun: LogicalUnit::from_low_bits(dice.byte()) },
-                _ => EventGenerator::SoftwareId { software_id: id, channel_number },
-            };
-            let known = [EventMessageRevision::V2_0, EventMessageRevision::V1_0];
-            let event_message_format = [known[dice.below(2)], EventMessageRevision::Unknown(byte)][dice.below(2)];
-            let unknown = matches!(event_message_format, EventMessageRevision::Unknown(3 | 4));
-            let entry = Entry::System {
-                record_id,
-                timestamp,
-                generator_id,
-                event_message_format,
-                sensor_type: dice.byte(),
-                sensor_number: dice.byte(),
-                event_direction: [EventDirection::Assert, EventDirection::Deassert][dice.below(2)],
-                event_type,
-                event_data: EventData { offset, ..EventData::parse(&[dice.byte(), dice.byte(), dice.byte()]) },
-            };
-            (entry, id <= 127 && event_type <= 127 && offset <= 15 && !unknown)
-        }
+        _ => any_system(dice, record_id, timestamp),
     }
 }
 
@@ -153,6 +159,46 @@ fn written_entries() {
         }
     }
     assert!((CALLS / 5..CALLS / 5 * 4).contains(&written), "{written} entries were written");
+}
+
+/// The places of a record's bytes that a system entry keeps.
+const KEPT: [usize; 5] = [7, 8, 13, 14, 15];
+
+/// A byte with none, some or all of its bits changed.
+fn near(dice: &mut Dice, byte: u8) -> u8 {
+    byte ^ [0, 1 << dice.below(8), 0b11 << dice.below(7), 0xFF, dice.byte()][dice.below(5)]
+}
+
+/// Fields beside bytes that are near those of their record: they are written exactly where the record with these bytes has
+/// these fields, and then that is what is written.
+#[test]
+fn kept_bytes() {
+    let mut dice = Dice::new(7);
+    let (mut written, mut refused) = (0, 0);
+    for _ in 0..CALLS {
+        let (mut entry, has_record) = any_system(&mut dice, RecordId::FIRST, Timestamp::from(1000));
+        let mut record = entry.to_bytes().unwrap_or([0; 16]);
+        for place in KEPT {
+            if dice.below(3) == 0 {
+                record[place] = near(&mut dice, record[place]);
+            }
+        }
+        let bytes = KEPT.map(|place| record[place]);
+        if let Entry::System { kept, .. } = &mut entry {
+            *kept = Kept::new(bytes);
+        }
+        match (entry.to_bytes(), Entry::parse(&record)) {
+            (Ok(same), Ok(parsed @ Entry::System { kept, .. })) => {
+                assert_eq!((same, parsed, kept.bytes(), has_record), (record, entry, Some(bytes), true));
+                written += 1;
+            }
+            (told, parsed) => {
+                assert!(told.is_err() && !(has_record && parsed == Ok(entry)), "{record:02X?}");
+                refused += usize::from(has_record);
+            }
+        }
+    }
+    assert!(written > 5000 && refused > 5000, "{written} entries were written; of those that have a record, {refused} were refused");
 }
 
 /// A record, and mostly the same with a bit or two changed: what is said of the two is what `==` says of their entries.
@@ -201,6 +247,9 @@ fn get_entries() {
         assert_eq!(info.as_ref().err() == Some(&ParseEntryError::NotEnoughData), refused);
         check_refusal(AnswerKind::GetEntry, bytes, info.as_ref().err().copied());
         assert_eq!(record_bytes(bytes), if refused { &[] } else { &bytes[2..18] });
+        if let Ok(info) = &info {
+            assert_eq!(info.entry.to_bytes().unwrap(), record_bytes(bytes));
+        }
         assert_eq!(info.map(|info| info.entry).ok(), Entry::parse(record_bytes(bytes)).ok());
         check_cut(AnswerKind::GetEntry, bytes, GetSelEntry::parse_success_response);
         check_cut(AnswerKind::GetEntry, bytes, |bytes| record_bytes(bytes).to_vec());

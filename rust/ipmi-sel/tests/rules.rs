@@ -11,7 +11,7 @@ use ipmi_sel::connection::{Channel, ChannelNumber, LogicalUnit, NotEnoughData, V
 use ipmi_sel::nonmax::NonMaxU8;
 use ipmi_sel::storage::sdr::{decode_event, EventData, EventData2Type, EventData3Type, SensorType, TypedData, TypedData2, TypedData3};
 use ipmi_sel::storage::sel::{
-    ClearSel, Entry, ErasureProgress, EventDirection, EventGenerator, EventMessageRevision, GetSelEntry, GetSelInfo, ParseEntryError,
+    ClearSel, Entry, ErasureProgress, EventDirection, EventGenerator, EventMessageRevision, GetSelEntry, GetSelInfo, Kept, ParseEntryError,
     RecordId, ReserveSel, SelAllocInfo, SelCommand, SelEntryInfo, SelGetAllocInfo,
 };
 use ipmi_sel::storage::{AllocInfo, Timestamp};
@@ -46,10 +46,27 @@ fn check_versions<T: PartialEq + fmt::Debug>(told: &Result<T, ParseEntryError>, 
     }
 }
 
-/// An entry is written as a record of the same entry: an OEM record as it was, a system record with 0 in the bits that no
-/// field holds.
+/// The bytes that an entry keeps.
+fn kept(entry: &Entry) -> Option<[u8; 5]> {
+    match entry {
+        Entry::System { kept, .. } => kept.bytes(),
+        _ => None,
+    }
+}
+
+/// A system entry keeps bytes 7, 8 and 13 to 15 of its record, whichever function has read it.
+fn check_kept(data: &[u8], entry: &Entry) {
+    let bytes = [7, 8, 13, 14, 15].map(|place| data[place]);
+    assert_eq!(kept(entry), (data[2] == 0x02).then_some(bytes));
+}
+
+/// An entry is written as the record that it was read from. Remade, it is written as a record of the same entry: an OEM
+/// record as it was, a system record with 0 in the bits that no field holds.
 fn check_written(entry: &Entry, data: &[u8]) {
-    let record = entry.to_bytes().unwrap();
+    assert_eq!(entry.to_bytes().unwrap(), data[..16]);
+    let remade = entry.clone().remade();
+    assert_eq!((&remade, kept(&remade)), (entry, None));
+    let record = remade.to_bytes().unwrap();
     assert_eq!(Entry::parse(&record).as_ref(), Ok(entry));
     assert_eq!(same_entry(&record, data), Ok(true));
     match entry {
@@ -60,11 +77,13 @@ fn check_written(entry: &Entry, data: &[u8]) {
 }
 
 fn parsed(data: &[u8]) -> Result<Entry, ParseEntryError> {
-    let entry = Entry::parse(data);
-    check_versions(&entry, Entry::parse_in(Version::V1_5, data), Entry::parse_in(Version::V2_0, data));
-    if let Ok(entry) = &entry {
+    let (entry, by_version) = (Entry::parse(data), |version| Entry::parse_in(version, data));
+    check_versions(&entry, by_version(Version::V1_5), by_version(Version::V2_0));
+    for entry in entry.iter().chain(&by_version(Version::V1_5)).chain(&by_version(Version::V2_0)) {
+        check_kept(data, entry);
         check_written(entry, data);
     }
+    assert_eq!(get_parsed(&[&[0x34, 0x12], data].concat()).map(|info| info.entry), entry);
     entry
 }
 
@@ -72,6 +91,10 @@ fn get_parsed(data: &[u8]) -> Result<SelEntryInfo, ParseEntryError> {
     let by_version = |version| GetSelEntry::parse_success_response_in(version, data);
     let info = GetSelEntry::parse_success_response(data);
     check_versions(&info, by_version(Version::V1_5), by_version(Version::V2_0));
+    for info in info.iter().chain(&by_version(Version::V1_5)).chain(&by_version(Version::V2_0)) {
+        check_kept(&data[2..], &info.entry);
+        check_written(&info.entry, &data[2..]);
+    }
     info
 }
 
@@ -107,6 +130,7 @@ fn a_system_record() {
             data2_type: EventData2Type::TriggerReading(value(90)),
             data3_type: EventData3Type::TriggerThreshold(value(85)),
         },
+        kept: Kept::FROM_FIELDS,
     };
     assert_eq!(parsed(&RECORD), Ok(entry.clone()));
     assert_eq!(parsed(&[&RECORD[..], &[0xFF; 9]].concat()), Ok(entry.clone()));
@@ -199,31 +223,45 @@ fn refused_records() {
     assert_eq!(parsed(&changed(changed(RECORD, 2, 0x03), 8, 0xC0)), Err(ParseEntryError::UnknownRecordType(0x03)));
 }
 
+/// RECORD with other event data.
+fn with_data([b1, b2, b3]: [u8; 3]) -> [u8; 16] {
+    changed(changed(changed(RECORD, 13, b1), 14, b2), 15, b3)
+}
+
+/// A record comes back byte for byte; made again from its fields, with 0 in the bits that no field holds, and 00 and FFh
+/// for unspecified event data.
 #[test]
 fn written_records() {
-    let written = |record: [u8; 16]| parsed(&record).unwrap().to_bytes();
-    assert_eq!(written(RECORD), Ok(RECORD));
+    let check = |record: [u8; 16], remade: [u8; 16]| {
+        let entry = parsed(&record).unwrap();
+        assert_eq!((entry.to_bytes(), entry.remade().to_bytes()), (Ok(record), Ok(remade)));
+    };
+    check(RECORD, RECORD);
     // Bits that no field holds: two behind an address, four behind a software id.
-    assert_eq!(written(changed(RECORD, 8, 0x7E)), Ok(changed(RECORD, 8, 0x72)));
     let by_software = changed(RECORD, 7, 0x21);
-    assert_eq!(written(changed(by_software, 8, 0x7F)), Ok(changed(by_software, 8, 0x70)));
+    for low in 0x0..=0xF {
+        check(changed(RECORD, 8, 0x70 | low), changed(RECORD, 8, 0x70 | low & 0b0011));
+        check(changed(by_software, 8, 0x70 | low), changed(by_software, 8, 0x70));
+    }
     for revision in [0x03, 0x05] {
-        assert_eq!(written(changed(RECORD, 9, revision)), Ok(changed(RECORD, 9, revision)));
+        check(changed(RECORD, 9, revision), changed(RECORD, 9, revision));
     }
     // Unspecified event data, by kind or by value.
-    for (data, expected) in [
+    for (data, remade) in [
         ([0xC0, 0xFF, 0x12], [0x00, 0xFF, 0xFF]),
+        ([0x05, 0x12, 0x34], [0x05, 0xFF, 0xFF]),
         ([0x15, 0x34, 0x12], [0x15, 0xFF, 0x12]),
         ([0xF5, 0xFE, 0xFF], [0xC5, 0xFE, 0xFF]),
+        ([0x5A, 0xFF, 0xFF], [0x0A, 0xFF, 0xFF]),
+        ([0x95, 0xFF, 0x00], [0x15, 0xFF, 0x00]),
         ([0xF5, 0x00, 0x00], [0xF5, 0x00, 0x00]),
     ] {
-        let with = |[b1, b2, b3]: [u8; 3]| changed(changed(changed(RECORD, 13, b1), 14, b2), 15, b3);
-        assert_eq!(written(with(data)), Ok(with(expected)));
+        check(with_data(data), with_data(remade));
     }
     for ty in [0xC0, 0xDF, 0xE0, 0xFF] {
-        let oem = changed([0xFF; 16], 2, ty);
-        assert_eq!(written(oem), Ok(oem));
-        assert_eq!(written(changed([0x00; 16], 2, ty)), Ok(changed([0x00; 16], 2, ty)));
+        for bytes in [[0xFF; 16], [0x00; 16]] {
+            check(changed(bytes, 2, ty), changed(bytes, 2, ty));
+        }
     }
 
     let greatest = Entry::System {
@@ -240,9 +278,150 @@ fn written_records() {
             data2_type: EventData2Type::SensorSpecific(value(0xFE)),
             data3_type: EventData3Type::SensorSpecific(value(0xFE)),
         },
+        kept: Kept::default(),
     };
     let record = [0xFF, 0xFF, 0x02, 0xFF, 0xFF, 0xFF, 0xFF, 0xFE, 0xF3, 0xFF, 0xFF, 0xFF, 0xFF, 0xFF, 0xFE, 0xFE];
     assert_eq!(greatest.to_bytes(), Ok(record));
+}
+
+/// A system entry with other fields, all else as it was, the kept bytes too.
+fn altered(entry: &Entry, generator: Option<EventGenerator>, change: impl FnOnce(&mut EventData)) -> Entry {
+    let mut entry = entry.clone();
+    let Entry::System { generator_id, event_data, .. } = &mut entry else { panic!() };
+    *generator_id = generator.unwrap_or(*generator_id);
+    change(event_data);
+    entry
+}
+
+/// Each field of the generator and of the event data by itself, changed so that it does not follow from the kept bytes.
+#[test]
+fn kept_bytes_and_fields_that_disagree() {
+    use {EventData2Type as Second, EventData3Type as Third};
+    let check = |entry: &Entry, generators: &[EventGenerator], data2: &[Second], data3: &[Third]| {
+        let refused = |altered: Entry| {
+            assert_eq!(altered.to_bytes(), Err(NoSuchRecord), "{altered:?}");
+            // It is the kept bytes alone that no record has with these fields.
+            let record = altered.clone().remade().to_bytes().unwrap();
+            assert_eq!(parsed(&record), Ok(altered));
+        };
+        generators.iter().for_each(|generator| refused(altered(entry, Some(*generator), |_| ())));
+        data2.iter().for_each(|other| refused(altered(entry, None, |data| data.data2_type = *other)));
+        data3.iter().for_each(|other| refused(altered(entry, None, |data| data.data3_type = *other)));
+        for offset in 0..16 {
+            let other = altered(entry, None, |data| data.offset = offset);
+            if other != *entry {
+                refused(other);
+            }
+        }
+        assert!(entry.to_bytes().is_ok());
+    };
+    let by_address = |i2c_addr, channel_number, lun| EventGenerator::RqSAAndLun { i2c_addr, channel_number, lun };
+    let by_software = |software_id, channel_number| EventGenerator::SoftwareId { software_id, channel_number };
+    let (zero, v) = (LogicalUnit::Zero, value);
+
+    // Address 10h, channel 0h, unit 0, a reading of 90 and a threshold of 85; the two bits of no field set, and not.
+    for low in [0b0000, 0b1100] {
+        check(
+            &parsed(&changed(RECORD, 8, low)).unwrap(),
+            &[
+                by_address(0x11, Channel::Primary, zero),
+                by_address(0x50, Channel::Primary, zero),
+                by_address(0x10, numbered(8), zero),
+                by_address(0x10, Channel::System, zero),
+                by_address(0x10, Channel::Primary, LogicalUnit::One),
+                by_address(0x10, Channel::Primary, LogicalUnit::Three),
+                by_software(0x10, Channel::Primary),
+            ],
+            &[Second::Unspecified, Second::TriggerReading(v(91)), Second::OemCode(v(90)), Second::SensorSpecific(v(90))],
+            &[Third::Unspecified, Third::TriggerThreshold(v(0)), Third::OemCode(v(85)), Third::SensorSpecific(v(85))],
+        );
+    }
+    // Software id 10h on channel Eh, which has no unit; unspecified by kind, and by value.
+    let record = changed(changed(with_data([0x35, 0x12, 0xFF]), 7, 0x21), 8, 0xEF);
+    check(
+        &parsed(&record).unwrap(),
+        &[by_software(0x11, Channel::Current), by_software(0x10, Channel::System), by_address(0x10, Channel::Current, LogicalUnit::Three)],
+        &[Second::TriggerReading(v(0x12)), Second::OemCode(v(0x12)), Second::SensorSpecific(v(0x12)), Second::TriggerReading(v(0))],
+        &[Third::TriggerThreshold(v(0)), Third::OemCode(v(0xFE)), Third::SensorSpecific(v(0)), Third::SensorSpecific(v(0xFE))],
+    );
+    check(
+        &parsed(&with_data([0x05, 0x12, 0x34])).unwrap(),
+        &[],
+        &[Second::TriggerReading(v(0x12)), Second::SensorSpecific(v(0x12))],
+        &[Third::TriggerThreshold(v(0x34)), Third::OemCode(v(0x34))],
+    );
+}
+
+/// What no kept byte holds can be changed, and is written beside the kept bytes.
+#[test]
+fn other_fields_beside_the_kept_bytes() {
+    let mut entry = parsed(&changed(with_data([0x05, 0x12, 0x34]), 8, 0x0C)).unwrap();
+    let Entry::System { record_id, timestamp, event_message_format, sensor_type, sensor_number, event_direction, event_type, .. } =
+        &mut entry
+    else {
+        panic!()
+    };
+    *record_id = RecordId::LAST;
+    *timestamp = Timestamp::from(0x0403_0201);
+    *event_message_format = EventMessageRevision::Unknown(0xFF);
+    (*sensor_type, *sensor_number) = (0xA1, 0xA2);
+    *event_direction = EventDirection::Deassert;
+    *event_type = 0x6F;
+    let record = [0xFF, 0xFF, 0x02, 0x01, 0x02, 0x03, 0x04, 0x20, 0x0C, 0xFF, 0xA1, 0xA2, 0xEF, 0x05, 0x12, 0x34];
+    assert_eq!(entry.to_bytes(), Ok(record));
+    assert_eq!(parsed(&record), Ok(entry.clone()));
+    // What no record has is refused beside kept bytes as it is without them.
+    let Entry::System { event_type, .. } = &mut entry else { panic!() };
+    *event_type = 0x80;
+    assert_eq!((entry.to_bytes(), entry.clone().remade().to_bytes()), (Err(NoSuchRecord), Err(NoSuchRecord)));
+    let Entry::System { event_type, event_message_format, .. } = &mut entry else { panic!() };
+    (*event_type, *event_message_format) = (0x6F, EventMessageRevision::Unknown(0x04));
+    assert_eq!((entry.to_bytes(), entry.remade().to_bytes()), (Err(NoSuchRecord), Err(NoSuchRecord)));
+}
+
+/// Kept bytes that are given by hand: every value of each, beside the fields of RECORD.
+#[test]
+fn kept_bytes_by_hand() {
+    let fields = Entry::parse(&RECORD).unwrap();
+    for (place, in_record) in [7, 8, 13, 14, 15].into_iter().enumerate() {
+        for byte in 0..=u8::MAX {
+            let bytes = changed([0x20, 0x00, 0x59, 0x5A, 0x55], place, byte);
+            let mut entry = fields.clone();
+            if let Entry::System { kept, .. } = &mut entry {
+                *kept = Kept::new(bytes);
+            }
+            // Bits 3 and 2 of byte 8 are the only ones that no field of it holds.
+            let follows = byte == RECORD[in_record] || (in_record == 8 && byte & !0b1100 == 0);
+            let record = if follows { Ok(changed(RECORD, in_record, byte)) } else { Err(NoSuchRecord) };
+            assert_eq!((entry.to_bytes(), kept(&entry)), (record, Some(bytes)), "{bytes:02X?}");
+        }
+    }
+    assert_eq!((Kept::FROM_FIELDS.bytes(), Kept::default().bytes()), (None, None));
+}
+
+/// `==` and `{:?}` of an entry are the original's: the fields alone.
+#[test]
+fn what_shows_of_kept_bytes() {
+    let (one, other) = (parsed(&RECORD).unwrap(), parsed(&changed(RECORD, 8, 0x0C)).unwrap());
+    assert_ne!(kept(&one), kept(&other));
+    assert!(one == other && one == one.clone().remade());
+    assert!(Kept::new([0; 5]) == Kept::new([1; 5]) && Kept::new([0; 5]) == Kept::FROM_FIELDS);
+    let text = "System { record_id: RecordId(1), timestamp: Timestamp(1000), \
+                generator_id: RqSAAndLun { i2c_addr: 16, channel_number: Primary, lun: Zero }, event_message_format: V2_0, \
+                sensor_type: 1, sensor_number: 48, event_direction: Assert, event_type: 1, \
+                event_data: EventData { offset: 9, data2_type: TriggerReading(90), data3_type: TriggerThreshold(85) } }";
+    assert_eq!((format!("{one:?}"), format!("{other:?}")), (text.to_string(), text.to_string()));
+    assert_eq!(format!("{one:#?}"), format!("{:#?}", one.clone().remade()));
+    assert!(!format!("{one:#?}").contains("kept"));
+    assert_eq!(format!("{:?} {:?}", Kept::new([1, 2, 3, 4, 5]), Kept::FROM_FIELDS), "Kept(Some([1, 2, 3, 4, 5])) Kept(None)");
+
+    let oem = [0x02, 0x00, 0xC0, 0xE8, 0x03, 0x00, 0x00, 0x01, 0x00, 0x00, 1, 2, 3, 4, 5, 6];
+    let (timed, plain) = (parsed(&oem).unwrap(), parsed(&changed(oem, 2, 0xE0)).unwrap());
+    let text =
+        "OemTimestamped { record_id: RecordId(2), ty: 192, timestamp: Timestamp(1000), manufacturer_id: 1, data: [1, 2, 3, 4, 5, 6] }";
+    assert_eq!(format!("{timed:?}"), text);
+    let text = "OemNotTimestamped { record_id: RecordId(2), ty: 224, data: [232, 3, 0, 0, 1, 0, 0, 1, 2, 3, 4, 5, 6] }";
+    assert_eq!(format!("{plain:?}"), text);
 }
 
 /// The entry of RECORD, but for these fields.
@@ -261,6 +440,7 @@ fn system(generator_id: EventGenerator, event_message_format: EventMessageRevisi
             data2_type: EventData2Type::TriggerReading(value(90)),
             data3_type: EventData3Type::TriggerThreshold(value(85)),
         },
+        kept: Kept::FROM_FIELDS,
     }
 }
 
@@ -326,7 +506,7 @@ fn entry_by(generator: EventGenerator) -> Entry {
     if let Entry::System { generator_id, .. } = &mut entry {
         *generator_id = generator;
     }
-    entry
+    entry.remade()
 }
 
 #[test]

@@ -3,12 +3,13 @@
 
 use std::fs;
 use std::panic;
-use std::path::Path;
 
 use dice::Dice;
 use ipmi_rs_core::connection::{IpmiCommand, Message};
+use logs::{captures, from_hex, project, slot};
 
 mod dice;
+mod logs;
 
 mod original {
     include!("program/log.rs");
@@ -55,27 +56,10 @@ impl Session {
     }
 }
 
-fn from_hex(digits: &str) -> Option<Vec<u8>> {
-    (0..digits.len()).step_by(2).map(|i| u8::from_str_radix(digits.get(i..i + 2)?, 16).ok()).collect()
-}
-
-fn project() -> &'static Path {
-    Path::new(concat!(env!("CARGO_MANIFEST_DIR"), "/../.."))
-}
-
-/// Of a line `ask=HHHH next=HHHH record=HEX` the asked id and the answer.
-fn slot(line: &str) -> Option<(u16, Vec<u8>)> {
-    let mut fields = line.split(' ').map(|field| field.split_once('=').map(|(_, value)| value));
-    let ask = u16::from_str_radix(fields.next()??, 16).ok()?;
-    let next = u16::from_str_radix(fields.next()??, 16).ok()?;
-    Some((ask, [&next.to_le_bytes()[..], &from_hex(fields.next()??)?].concat()))
-}
-
 #[test]
 fn the_logs_of_the_examples() {
     let mut records = 0;
-    for name in ["healthy", "damaged", "oem", "missing", "circle", "late-clock", "previous-state", "reserved-kind"] {
-        let text = fs::read_to_string(project().join(format!("examples/{name}.txt"))).unwrap();
+    for (name, text) in captures() {
         // A line that is none is no answer.
         let log: Vec<_> = text.lines().filter_map(slot).collect();
         let mut sessions = [Session::new(log.clone()), Session::new(log)];
@@ -186,20 +170,23 @@ fn equal_entries() {
     assert!(pairs.len() > 4000 && equal > 300);
 }
 
-/// What is written of a record's entry is a record of the same entry to the original, too.
+/// What is written of a record's entry is the record itself. Made from the fields alone, it is a record of the same
+/// entry to the original, too.
 #[test]
 fn written_records() {
-    let mut written = 0;
+    let (mut written, mut others) = (0, 0);
     for bytes in questions() {
         let Ok(entry) = ipmi_sel::storage::sel::Entry::parse(&bytes) else { continue };
-        let record = entry.to_bytes().unwrap();
+        assert_eq!(entry.to_bytes().unwrap(), bytes[..16], "{bytes:02X?}");
+        let record = entry.clone().remade().to_bytes().unwrap();
         assert_eq!(original::equal(&record, &bytes), Some(true), "{bytes:02X?}");
         let parsed = ipmi_rs_core::storage::sel::Entry::parse(&record).unwrap();
         assert_eq!(format!("{parsed:?}"), format!("{entry:?}"), "{bytes:02X?}");
         written += 1;
+        others += usize::from(record != bytes[..16]);
     }
-    println!("{written} records were written");
-    assert!(written > 10_000);
+    println!("{written} records were written; made from their fields, {others} of them are others");
+    assert!(written > 10_000 && others > 1000);
 }
 
 #[test]

@@ -156,8 +156,8 @@ impl EventData {
         }
     }
 
-    /// What the bytes are under the entry's event type, as [`TypedData::parse`] has them, but that a reserved kind with a value of FFh is unspecified: of
-    /// such a byte the kind was not kept. Not in ipmi-rs-core.
+    /// What the bytes are under the entry's event type, as [`TypedData::parse`] has them, but that a reserved kind with a value of FFh is unspecified: no
+    /// field holds the kind of such a byte. Not in ipmi-rs-core.
     pub fn by_type(&self, event_type: u8) -> TypedData {
         TypedData { offset: self.offset, ..TypedData::parse(event_type, &self.bytes()) }
     }

@@ -37,20 +37,22 @@ impl GetEntry {
 
     pub fn parse_success_response(data: &[u8]) -> Result<EntryInfo, ParseEntryError> {
         let mut flat = Flat::decode(b'g', data)?;
-        Ok(EntryInfo::decoded(&mut flat))
+        Ok(EntryInfo::decoded(&mut flat, data))
     }
 
     /// As [`parse_success_response`](Self::parse_success_response), which is the 2.0 case, by the channels of a version; a record is refused as by
     /// [`Entry::parse_in`]. Not in ipmi-rs-core.
     pub fn parse_success_response_in(version: Version, data: &[u8]) -> Result<EntryInfo, Refusal> {
         let mut flat = Flat::written(|out| ffi::get_entry_of(version.number(), data, out)).map_err(Refusal::told)?;
-        Ok(EntryInfo::decoded(&mut flat))
+        Ok(EntryInfo::decoded(&mut flat, data))
     }
 }
 
 impl EntryInfo {
-    #[inline]
-    fn decoded(flat: &mut Flat) -> Self {
-        Self { next_entry: RecordId::new_raw(flat.u16()), entry: Entry::decoded(flat) }
+    /// The record stands behind the next id.
+    // In both of its callers, as `Entry::decoded` is in its own.
+    #[inline(always)]
+    fn decoded(flat: &mut Flat, data: &[u8]) -> Self {
+        Self { next_entry: RecordId::new_raw(flat.u16()), entry: Entry::decoded(flat, data.get(2..).unwrap_or(&[])) }
     }
 }

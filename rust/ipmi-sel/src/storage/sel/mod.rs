@@ -14,12 +14,14 @@ mod clear;
 mod get_alloc_info;
 mod get_entry;
 mod get_info;
+mod kept;
 mod reserve;
 
 pub use clear::{ClearSel, ClearSelAction, ErasureProgress};
 pub use get_alloc_info::{AllocInfo as SelAllocInfo, GetAllocInfo as SelGetAllocInfo};
 pub use get_entry::{EntryInfo as SelEntryInfo, GetEntry as GetSelEntry};
 pub use get_info::{Command as SelCommand, GetInfo as GetSelInfo, Info as SelInfo};
+pub use kept::Kept;
 pub use reserve::ReserveSel;
 
 /// The id of a record.
@@ -165,8 +167,8 @@ pub enum EventDirection {
     Deassert,
 }
 
-/// A record of the log.
-#[derive(Debug, Clone, PartialEq)]
+/// A record of the log. `==` and `{:?}` are the original's: they go by the decoded fields alone, without `kept`.
+#[derive(Clone, PartialEq)]
 pub enum Entry {
     System {
         record_id: RecordId,
@@ -178,6 +180,8 @@ pub enum Entry {
         event_direction: EventDirection,
         event_type: u8,
         event_data: EventData,
+        /// The bytes of generator and event data as they came, or [`Kept::FROM_FIELDS`]. Not in ipmi-rs-core.
+        kept: Kept,
     },
     OemTimestamped {
         record_id: RecordId,
@@ -191,6 +195,47 @@ pub enum Entry {
         ty: u8,
         data: [u8; 13],
     },
+}
+
+impl fmt::Debug for Entry {
+    fn fmt(&self, f: &mut fmt::Formatter<'_>) -> fmt::Result {
+        match self {
+            Self::System {
+                record_id,
+                timestamp,
+                generator_id,
+                event_message_format,
+                sensor_type,
+                sensor_number,
+                event_direction,
+                event_type,
+                event_data,
+                kept: _,
+            } => f
+                .debug_struct("System")
+                .field("record_id", record_id)
+                .field("timestamp", timestamp)
+                .field("generator_id", generator_id)
+                .field("event_message_format", event_message_format)
+                .field("sensor_type", sensor_type)
+                .field("sensor_number", sensor_number)
+                .field("event_direction", event_direction)
+                .field("event_type", event_type)
+                .field("event_data", event_data)
+                .finish(),
+            Self::OemTimestamped { record_id, ty, timestamp, manufacturer_id, data } => f
+                .debug_struct("OemTimestamped")
+                .field("record_id", record_id)
+                .field("ty", ty)
+                .field("timestamp", timestamp)
+                .field("manufacturer_id", manufacturer_id)
+                .field("data", data)
+                .finish(),
+            Self::OemNotTimestamped { record_id, ty, data } => {
+                f.debug_struct("OemNotTimestamped").field("record_id", record_id).field("ty", ty).field("data", data).finish()
+            }
+        }
+    }
 }
 
 /// Why a record is refused. Length is tested first, then the type, then the channel.
@@ -214,26 +259,47 @@ impl Entry {
 
     /// Of sixteen bytes; what follows them is not looked at.
     pub fn parse(data: &[u8]) -> Result<Self, ParseEntryError> {
-        Ok(Self::decoded(&mut Flat::decode(b'e', data)?))
+        Ok(Self::decoded(&mut Flat::decode(b'e', data)?, data))
     }
 
     /// As [`parse`](Self::parse), which is the 2.0 case, by the channels of a version: under 1.5 a system record on channel 8h to Bh is refused, too.
     /// A refusal is told as finely as the library tells it; the error of `parse` is `From` it. Not in ipmi-rs-core.
     pub fn parse_in(version: Version, data: &[u8]) -> Result<Self, Refusal> {
         let mut flat = Flat::written(|out| ffi::entry_of(version.number(), data, out)).map_err(Refusal::told)?;
-        Ok(Self::decoded(&mut flat))
+        Ok(Self::decoded(&mut flat, data))
     }
 
-    /// The sixteen bytes of a record that [`parse`](Self::parse) reads as this entry; the error where there is none. An
-    /// OEM record that was parsed comes back as it was. A system record has 0 in the bits that no field holds, and kind
-    /// 00 and value FFh for unspecified event data. Not in ipmi-rs-core.
+    /// The sixteen bytes of a record that [`parse`](Self::parse) reads as this entry, with the bytes that it keeps. What
+    /// was parsed comes back as it was. The error where there is no such record: also where the generator or the event
+    /// data was changed, so that it does not follow from the kept bytes any more, until the entry is
+    /// [`remade`](Self::remade). Not in ipmi-rs-core.
     pub fn to_bytes(&self) -> Result<[u8; 16], NoSuchRecord> {
-        let mut record = [0; 16];
-        let answer = ffi::write_entry(self.fields().bytes(), &mut record);
+        let (fields, mut record) = (self.fields(), [0; 16]);
+        let answer = match self.kept().bytes() {
+            Some(kept) => ffi::write_kept(&kept, fields.bytes(), &mut record),
+            None => ffi::write_entry(fields.bytes(), &mut record),
+        };
         if answer.number == 0 {
             Ok(record)
         } else {
             Err(answer.into())
+        }
+    }
+
+    /// The same fields, and no kept bytes: the library makes them from the fields. For an entry that was parsed, and of
+    /// which the generator or the event data was changed. Not in ipmi-rs-core.
+    pub fn remade(mut self) -> Self {
+        if let Self::System { kept, .. } = &mut self {
+            *kept = Kept::FROM_FIELDS;
+        }
+        self
+    }
+
+    /// The fields of an OEM record hold every byte of it.
+    fn kept(&self) -> Kept {
+        match self {
+            Self::System { kept, .. } => *kept,
+            _ => Kept::FROM_FIELDS,
         }
     }
 
@@ -250,6 +316,7 @@ impl Entry {
                 event_direction,
                 event_type,
                 event_data,
+                kept: _,
             } => Fields::new()
                 .put([0])
                 .put(record_id.0.to_le_bytes())
@@ -272,7 +339,7 @@ impl Entry {
 
     // In each of its four callers: called by them, it takes some 80 instructions more a record.
     #[inline(always)]
-    fn decoded(flat: &mut Flat) -> Self {
+    fn decoded(flat: &mut Flat, record: &[u8]) -> Self {
         let kind = flat.byte();
         let record_id = RecordId(flat.u16());
         match kind {
@@ -286,6 +353,7 @@ impl Entry {
                 event_direction: if flat.yes() { EventDirection::Deassert } else { EventDirection::Assert },
                 event_type: flat.byte(),
                 event_data: EventData::decoded(flat),
+                kept: Kept::of(record),
             },
             1 => Self::OemTimestamped {
                 record_id,

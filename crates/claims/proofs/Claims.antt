@@ -26,6 +26,7 @@ use Rattle.claims.proofs.Demand3.{demand-3}
 use Rattle.claims.proofs.Equality.{equality}
 use Rattle.claims.proofs.Fields.{decoded}
 use Rattle.claims.proofs.Header.{header}
+use Rattle.claims.proofs.KeptBits.{kept-bits}
 use Rattle.claims.proofs.Requests.{requests}
 use Rattle.claims.proofs.Texts.{data-texts, event-texts, time-texts, writes}
 
@@ -64,4 +65,5 @@ claims =
       mappedBack = mapped-back;
       channels15 = channels-15;
       writer = record { roundTrips = round-trips; turnedAway = turned-away; flatTrips = flat-trips; flatAnswers = flat-answers };
+      keptBits = kept-bits;
     }

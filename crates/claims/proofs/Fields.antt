@@ -32,6 +32,7 @@ use Rattle.event_message.specs.declared.EventMessageRevision.{EventMessageRevis
 use Rattle.sel.specs.Entry.{channelIn, keptAt, noOem, parseEntry, plainRecord, refusedFor, stampedRecord, systemBy, systemRecord, typeAt}
 use Rattle.sel.specs.declared.Entry.{Entry}
 use Rattle.sel.specs.declared.EntryAnswer.{EntryAnswer}
+use Rattle.sel.specs.declared.KeptBytes.{KeptBytes}
 use Rattle.sel.specs.declared.ParseEntryError.{ParseEntryError}
 use Rattle.sel.specs.declared.ParsedEntry.{ParsedEntry}
 use Rattle.sel.proofs.Parsed.{parsed-plain, parsed-stamped, parsed-system}
@@ -99,7 +100,7 @@ unit-is b =
 -- a system record
 system-fields : (s : List ℕ)
     → SystemFields s (recordId (le16At s 0)) (timestamp (le32At s 3)) (generatorAt (byteAt s 7) (byteAt s 8)) (revisionOf (byteAt s 9))
-    (byteAt s 10) (byteAt s 11) (directionOf (byteAt s 12)) (bits 6 0 (byteAt s 12)) (eventDataOf (byteAt s 13 ∷ byteAt s 14 ∷ byteAt s 15 ∷ []))
+    (byteAt s 10) (byteAt s 11) (directionOf (byteAt s 12)) (bits 6 0 (byteAt s 12)) (eventDataOf (byteAt s 13 ∷ byteAt s 14 ∷ byteAt s 15 ∷ [])) (keptAt s)
 unfolding generatorAt revisionOf directionOf
 system-fields s =
     record {
@@ -122,6 +123,8 @@ system-fields s =
       deassert = λ b. rw (eq-eqb (bits 7 7 (byteAt s 12)) 1 b);
       eventType = refl;
       dataIs = three-bytes (byteAt s 13) (byteAt s 14) (byteAt s 15);
+      keptGenerator = (refl, refl);
+      keptData = (refl, refl, refl);
     }
 
 module _ (s : List ℕ) (r : ParsedEntry) (p : Promised AnswerKind.Entry r s) (long : 16 ≤ length s) where
@@ -190,14 +193,14 @@ alloc-fields s = record { units = refl; unitSize = refl; free = refl; largest = 
 system : (s : List ℕ) (r : ParsedEntry) → Promised AnswerKind.Entry r s
     → 16 ≤ length s → byteAt s 2 ≡ 0x02 → validChannel (bits 7 4 (byteAt s 8)) ≡ true
     → (id : RecordId) × (time : Timestamp) × (generator : EventGenerator) × (revision : EventMessageRevision)
-    × (sensor : ℕ) × (number : ℕ) × (direction : EventDirection) × (event : ℕ) × (eventData : EventData)
-    × (r .answer ≡ EntryAnswer.Accepted (Entry.System id time generator revision sensor number direction event eventData))
-    × SystemFields s id time generator revision sensor number direction event eventData
+    × (sensor : ℕ) × (number : ℕ) × (direction : EventDirection) × (event : ℕ) × (eventData : EventData) × (kept : KeptBytes)
+    × (r .answer ≡ EntryAnswer.Accepted (Entry.System id time generator revision sensor number direction event eventData kept))
+    × SystemFields s id time generator revision sensor number direction event eventData kept
     × (r .oem ≡ replicate 13 0)
 unfolding systemBy
 system s r p l t v =
     let e = system-is s r p l t v in
-    (_, _, _, _, _, _, _, _, _, ap (λ (x : ParsedEntry). x .answer) e, system-fields s, ap (λ (x : ParsedEntry). x .oem) e)
+    (_, _, _, _, _, _, _, _, _, _, ap (λ (x : ParsedEntry). x .answer) e, system-fields s, ap (λ (x : ParsedEntry). x .oem) e)
 
 -- what a parsed record is: accepted, or refused and without OEM bytes
 data Fate (p : ParsedEntry) : Type 0 where
@@ -325,7 +328,7 @@ decoded =
       plain = plain;
       refusedBytes = refused-bytes;
       refusedAnswer = refused-answer;
-      opened = λ id time generator revision sensor number direction event eventData. (
+      opened = λ id time generator revision sensor number direction event eventData kept. (
         _,
         refl,
         record {

@@ -6,6 +6,7 @@ pub mod Demand3
 mod Equality
 pub mod Fields
 pub mod Header
+pub mod KeptBits
 mod Lines
 pub mod Requests
 pub mod SlotAnswer

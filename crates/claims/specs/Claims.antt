@@ -1,6 +1,7 @@
 -- What is claimed of the port, whole: the three demands, the cases that its rules mark as proved, what the header of the library for C says,
 -- and what was asked for since: what two equal entries may differ in, texts that share their bytes, times before the
--- clock was set, event data by event type, what was short, channels of IPMI 1.5, and a writer of records. Assumes nothing.
+-- clock was set, event data by event type, what was short, channels of IPMI 1.5, a writer of records, and that the bits which
+-- fields do not hold are kept. Assumes nothing.
 use Prim.Native.Nat.{ℕ}
 use mathlib.Core.List.{List}
 use Rattle.field.specs.Handed.{Handed}
@@ -20,6 +21,7 @@ use Rattle.claims.specs.Demand2.{Demand2}
 use Rattle.claims.specs.Demand3.{Demand3}
 use Rattle.claims.specs.Equality.{Equality}
 use Rattle.claims.specs.Header.{Header}
+use Rattle.claims.specs.KeptBits.{KeptBits}
 use Rattle.claims.specs.Writer.{Writer}
 
 pub record Claims : Type 0 where
@@ -46,3 +48,5 @@ pub record Claims : Type 0 where
   pub channels15 : Channels15
   -- entries written as records
   pub writer : Writer
+  -- and what an entry keeps beside its fields
+  pub keptBits : KeptBits

@@ -15,7 +15,8 @@ use Rattle.abi.specs.Sames.{sameAnswer}
 use Rattle.claims.specs.Promises.{Promised}
 
 pub record Equality : Type 0 where
-  -- two entries that `Entry::parse` accepts, with the OEM bytes beside them, are equal exactly when these bytes and bits of the records agree
+  -- the decoded fields of two entries that `Entry::parse` accepts, with the OEM bytes beside them, are equal exactly when these bytes and bits of the
+  -- records agree; and the whole entries, with what they keep, exactly when the first sixteen bytes are
   pub entries : (valid : ℕ → Bool) (s t : List ℕ) (p q : ParsedEntry) → EqualEntries valid s t p q
   -- `same_entry` says so, or which of the two is refused first, and with what
   pub says : (valid : ℕ → Bool) (s t : List ℕ) (p q : ParsedEntry) (r : SameAnswer) → SameSays valid s t p q r

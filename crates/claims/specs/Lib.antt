@@ -7,6 +7,7 @@ pub mod Demand3
 pub mod Equality
 pub mod Fields
 pub mod Header
+pub mod KeptBits
 pub mod Promises
 pub mod Requests
 pub mod SlotAnswer

@@ -9,9 +9,9 @@ use Rattle.flat_form.specs.declared.SelAnswer.{SelAnswer}
 use Rattle.flat_writer.specs.Trips.{FlatAnswers, FlatTrips}
 
 pub record Writer : Type 0 where
-  -- entries are written as 16 bytes in a lent output. What was written parses to the same entry, and what was parsed is written: an OEM entry as the
-  -- first 16 bytes that came in, a system entry with 0 in all bits that no field holds, and unspecified event data as kind 00 and value FFh. An entry
-  -- that no record parses to is turned away, with 7, before the room is looked at; no other is
+  -- entries are written as 16 bytes in a lent output. What was written parses to the same entry, and what was parsed is written as the first 16 bytes
+  -- that came in; a system entry that was made from fields has 0 in all bits that no field holds, and unspecified event data as kind 00 and value FFh. An
+  -- entry that no record parses to is turned away, with 7, before the room is looked at; no other is
   pub roundTrips : (entry : Entry) (oem out left : List ℕ) (r : WriteAnswer) → RoundTrips entry oem out left r
   -- the cases that the request lists
   pub turnedAway : (oem : List ℕ) → TurnedAway oem

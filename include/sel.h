@@ -39,10 +39,13 @@ typedef struct SelAnswer {
  * 1 with 16 under 16 bytes; 2 with the type for any other type; 3 with the channel for a system event on channel Ch or Dh; then 4. */
 SelAnswer sel_entry(const uint8_t *data, size_t data_length, uint8_t *out, size_t out_length);
 
-/* What an entry keeps of its record beside what sel_entry tells: the bytes of which some bits are no field's. Writes, of a
- * system event, bytes 7, 8, 13, 14 and 15 of the record as they stand, five bytes (the generator's two, and event data);
- * of an OEM record, all of which sel_entry tells, none. Refused as sel_entry refuses the record: 1, 2, 3; then 4 with 5. */
+/* The most bytes that sel_keep writes. */
 #define SEL_KEPT 5
+
+/* What an entry keeps of its record beside what sel_entry tells: the bytes of which some bits are no field's. Writes, of a
+ * system event, bytes 7, 8, 13, 14 and 15 of the record as they stand, SEL_KEPT (5) bytes: the generator's two, and event
+ * data; of an OEM record, all of which sel_entry tells, none. Refused as sel_entry refuses the record: 1, 2, 3; then 4
+ * with 5. */
 SelAnswer sel_keep(const uint8_t *data, size_t data_length, uint8_t *out, size_t out_length);
 
 /* The record of an entry, which is given by the flat bytes that sel_entry writes of a record and the kept bytes that

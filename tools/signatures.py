@@ -14,6 +14,7 @@ SIZES = [
     ('SEL_TIME_TEXT', 'text.rs', 'TIME_ROOM', 'crates/storage/specs/Time.antt', 'timeRoom'),
     ('SEL_FLAT', 'flat.rs', 'MOST', 'crates/flat/specs/Sizes.antt', 'flatRoom'),
     ('SEL_REQUEST', 'request.rs', 'MOST', 'crates/flat/specs/Sizes.antt', 'requestRoom'),
+    ('SEL_KEPT', 'storage/sel/kept.rs', 'KEPT', 'crates/flat_writer/specs/Kept.antt', 'keptRoom'),
 ]
 # The bytes that each letter's answer needs: what the header says of them, with the names of the definitions.
 LENGTHS = 'crates/field/specs/Lengths.antt'

@@ -11,7 +11,7 @@ use Rattle.field.specs.Handed.{Handed, handed, noReservation, notEnoughData, po
 use Rattle.connection.specs.Channel.{validChannel}
 use Rattle.answers.specs.Answer.{answerOf}
 use Rattle.answers.specs.Rows.{handsOf}
-use Rattle.answers.specs.RustAnswers.{Decoded, Rust, asRust, decodedOf, err, ok, panics, rustAnswer}
+use Rattle.answers.specs.RustAnswers.{Returned, Rust, asRust, err, ok, panics, returnedOf, rustAnswer}
 use Rattle.answers.specs.declared.AnswerKind.{AnswerKind}
 use Rattle.answers.proofs.Ported.{ported-answers}
 use Rattle.answers.proofs.Rows.{answer-rows}
@@ -45,23 +45,23 @@ error panics = notEnoughData
 
 module _ (letter : ℕ) (kind : AnswerKind) (s out left : List ℕ) (r : SelAnswer) where
   -- the port answers as the Rust, and so it refuses where the Rust does, and else not
-  fate : (x : Rust (Decoded kind)) → (x ≡ panics → ⊥) → rustAnswer validChannel kind s ≡ x → asRust kind (answerOf validChannel kind s) ≡ x
+  fate : (x : Rust (Returned kind)) → (x ≡ panics → ⊥) → rustAnswer validChannel kind s ≡ x → asRust kind (answerOf validChannel kind s) ≡ x
   fate x n e = ported-answers validChannel kind s .same (λ p. n (sym e ∙ p)) ∙ e
 
   turned : (h : Handed) → asRust kind (answerOf validChannel kind s) ≡ err h → (handsOf validChannel kind s .number ≡ 0 → ⊥) × (ported (handsOf validChannel kind s) ≡ h)
   turned h e = by (eqb (handsOf validChannel kind s .number) 0) refl e
     where
       by : (b : Bool) → eqb (handsOf validChannel kind s .number) 0 ≡ b
-          → (if b then ok (decodedOf kind (answerOf validChannel kind s)) else err (ported (handsOf validChannel kind s))) ≡ err h
+          → (if b then ok (returnedOf kind (answerOf validChannel kind s)) else err (ported (handsOf validChannel kind s))) ≡ err h
           → (handsOf validChannel kind s .number ≡ 0 → ⊥) × (ported (handsOf validChannel kind s) ≡ h)
       by true t x = absurd (omega (arith, ap case x))
       by false t x = (eqb-false _ 0 t, ap error x)
 
-  zero : (a : Decoded kind) → asRust kind (answerOf validChannel kind s) ≡ ok a → handsOf validChannel kind s .number ≡ 0
+  zero : (a : Returned kind) → asRust kind (answerOf validChannel kind s) ≡ ok a → handsOf validChannel kind s .number ≡ 0
   zero a e = by (eqb (handsOf validChannel kind s .number) 0) refl e
     where
       by : (b : Bool) → eqb (handsOf validChannel kind s .number) 0 ≡ b
-          → (if b then ok (decodedOf kind (answerOf validChannel kind s)) else err (ported (handsOf validChannel kind s))) ≡ ok a → handsOf validChannel kind s .number ≡ 0
+          → (if b then ok (returnedOf kind (answerOf validChannel kind s)) else err (ported (handsOf validChannel kind s))) ≡ ok a → handsOf validChannel kind s .number ≡ 0
       by true t x = eqb-true _ 0 t
       by false t x = absurd (omega (arith, ap case x))
 

@@ -118,12 +118,13 @@ ROOMS = {
     'storage/specs/Time': ['timeRoom = 3'],
     'connection/specs/Version': ['ipmi15 = 0x51', 'ipmi20 = 0x02'],
     'flat/specs/Sizes': ['flatRoom = 2', 'requestRoom = 1'],
+    'flat_writer/specs/Kept': ['keptRoom = 8'],
     'field/specs/Lengths': ['entryBytes = 16', 'getEntryBytes = 18', 'infoBytes = 14', 'allocationBytes = 9', 'reserveBytes = 2', 'clearBytes = 1'],
 }
 EXPORTS = {
     **GOOD,
     **{f'crates/{file}.antt': '\n\n'.join(f'abbrev pub {x.split()[0]} : ℕ\n{x}' for x in lines) + '\n' for file, lines in ROOMS.items()},
-    'crates.txt': 'a:\nabi:\nevent_offset:\nevent_data:\nstorage:\nconnection:\nflat:\nfield:\n',
+    'crates.txt': 'a:\nabi:\nevent_offset:\nevent_data:\nstorage:\nconnection:\nflat:\nflat_writer:\nfield:\n',
     PAGE: STATED + STATED.replace('## a', '## abi').replace('`clear`', '`sel_text`, `sel_length`'),
     ABI: '''// Answers.
 #[repr(C)]
@@ -187,6 +188,7 @@ typedef struct SelAnswer {
 #define SEL_TIME_TEXT 3
 #define SEL_FLAT 2
 #define SEL_REQUEST 1
+#define SEL_KEPT 8
 #define SEL_IPMI_1_5 0x51
 #define SEL_IPMI_2_0 0x02
 
@@ -233,6 +235,7 @@ pub(crate) fn text(starts: &[u16], [event_type, sensor_type]: [u8; 2], id: u16, 
     RUST + 'text.rs': ''.join(f'const {x}: usize = {n};\n' for x, n in zip(('STORE', 'PLACES', 'EVENT_ROOM', 'DATA_ROOM', 'TIME_ROOM'), '76543')),
     RUST + 'flat.rs': '/// The most bytes.\nconst MOST: usize = 2;\n',
     RUST + 'request.rs': 'const MOST: usize = 1;\n',
+    RUST + 'storage/sel/kept.rs': 'pub const KEPT: usize = 8;\n',
 }
 ALL = EXPORTS['crates.txt'].replace(':', '').split()
 EXPORTS[FLOORS] = '    floor  rooms\n        1  ' + '  '.join(ALL) + '\n\n' + ''.join(f'- `{c}`: words\n' for c in ALL)
@@ -267,6 +270,7 @@ CHANGED = [
     (RUST + 'text.rs', 'TIME_ROOM: usize = 3', 'TIME_ROOM: usize = 33', 'text.rs: TIME_ROOM is 33, and timeRoom is 3'),
     (RUST + 'flat.rs', '= 2', '= 3', 'flat.rs: MOST is 3, and flatRoom is 2'),
     (RUST + 'request.rs', 'const', '// const', 'request.rs: MOST is no number'),
+    (RUST + 'storage/sel/kept.rs', '= 8', '= 5', 'kept.rs: KEPT is 5, and keptRoom is 8'),
     ('crates/storage/specs/Time.antt', 'timeRoom = 3', 'timeRoom = 1 + 2', 'Time.antt: no line timeRoom = a number'),
     (ABI, '#[no_mangle]\n', '', 'crates/abi/src cannot be read: 0 functions'),
     (ABI, '#[no_mangle]\npub extern "C" fn sel_length', '#[no_mangle]\npub fn sel_length', 'crates/abi/src cannot be read: 1 functions'),

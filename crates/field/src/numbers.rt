@@ -17,6 +17,8 @@ pub const TOO_LONG: u32 = 8;
 
 pub const NO_RESERVATION: u32 = 9;
 
+pub const WRONG_INDEX: u32 = 10;
+
 pub const UNNAMED_VERSION: u32 = 11;
 
 // No number of the table: the bytes are no question of the kind that was asked.

@@ -20,21 +20,12 @@ use Rattle.capture.proofs.Answer.{Answer, bad, short, goes, answer}
 use Rattle.capture.proofs.Listing.{few}
 use Rattle.capture.proofs.Ran.{counted}
 use Rattle.capture.proofs.Tested.{one-of-four}
-use Rattle.abi.specs.Walks.{Walks, foundAnswer, walkAnswer}
+use Rattle.abi.specs.Walks.{Walks, countOf, foundAnswer, walkAnswer}
 use Rattle.abi.specs.declared.walk.SelWalk.{SelWalk}
 
 -- what the search answers, of what it found
 pub found-is : (s : List ℕ) (id : ℕ) {x : RecordId} {f g : Found} → f ≡ firstSlot s (x .0) → x ≡ recordId id → f ≡ g → foundAnswer g ≡ foundAnswer (firstSlot s id)
 found-is s id p i e = ap foundAnswer (sym e ∙ p ∙ ap (λ (x : RecordId). firstSlot s (x .0)) i)
-
--- the count that an answer carries: of the slots read, or of the places needed
-abbrev pub countOf : Verdict → ℕ
-countOf (Verdict.Ended read) = read
-countOf (Verdict.Missing ask read) = read
-countOf (Verdict.Spent ask read) = read
-countOf (Verdict.Circle read) = read
-countOf (Verdict.NoRoom n) = n
-countOf Verdict.BadCapture = 0
 
 module _ (s : List ℕ) (b : ℕ) (old : List ℕ) where
   -- a verdict counts what was read

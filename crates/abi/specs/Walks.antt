@@ -29,6 +29,15 @@ walkAnswer (Verdict.Circle read) = walked 0 3 0 read 0
 walkAnswer (Verdict.NoRoom n) = walked (noRoom n .number) 0 0 0 n
 walkAnswer Verdict.BadCapture = walked (badCapture .number) 0 0 0 0
 
+-- the count that an answer carries: of the slots read, or of the places needed
+abbrev pub countOf : Verdict → ℕ
+countOf (Verdict.Ended read) = read
+countOf (Verdict.Missing ask read) = read
+countOf (Verdict.Spent ask read) = read
+countOf (Verdict.Circle read) = read
+countOf (Verdict.NoRoom n) = n
+countOf Verdict.BadCapture = 0
+
 -- The promise of the walk: what it answers, and what it leaves of the lent list.
 pub record Walks (s : List ℕ) (b : ℕ) (old : List ℕ) (r : SelWalk) (left : List ℕ) : Type 0 where
   pub answered : r ≡ walkAnswer (walkOf s b (length old))

@@ -1,5 +1,6 @@
 // The library for programs in other languages: numbers and lent slices in, numbers out. No function asks anything of its caller.
 mod connections;
+mod indexes;
 mod same;
 mod texts;
 mod typed;
@@ -9,6 +10,11 @@ pub use connections::sel_channel;
 pub use connections::sel_unit;
 use flat::Kind;
 pub use flat_form::SelAnswer;
+pub use indexes::sel_find_indexed;
+pub use indexes::sel_index_add;
+pub use indexes::sel_index_check;
+pub use indexes::sel_index_make;
+pub use indexes::sel_walk_indexed;
 pub use same::SelSame;
 pub use same::sel_same_entry;
 pub use texts::sel_data_text;

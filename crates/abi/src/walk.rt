@@ -5,10 +5,11 @@ use capture::Verdict;
 use field::numbers::BAD_CAPTURE;
 use field::numbers::NO_ROOM;
 use ids::RecordId;
+ghost use Prim.Native.Nat.{_≤_};
 ghost use mathlib.Core.Path.{_≡_};
 ghost use Rattle.capture.specs.Length.{slotsHands};
 ghost use Rattle.capture.specs.Slots.{firstSlot};
-ghost use Rattle.abi.specs.Walks.{Walks, foundAnswer};
+ghost use Rattle.abi.specs.Walks.{Walks, countOf, foundAnswer, walkAnswer};
 
 // 1 and the slot's number, or 0 and 0.
 #[repr(C)]
@@ -52,7 +53,15 @@ pub extern "C" fn sel_find(slots: &[u8], id: u16) -> SelFound
 pub extern "C" fn sel_walk(slots: &[u8], budget: usize, list: &mut [u16]) -> SelWalk
     ensures { λ r. ⌜ Walks (now (slots .entry)) budget (now (list .entry)) r (now (list .exit)) ⌝ }
 {
-    match capture::walk(slots, budget, list) {
+    in_numbers(capture::walk(slots, budget, list))
+}
+
+// A verdict in numbers: what it counts fits 32 bits.
+pub(crate) fn in_numbers(verdict: Verdict) -> SelWalk
+    requires { ⌜ countOf verdict ≤ 3000 ⌝ }
+    ensures { λ r. ⌜ r ≡ walkAnswer verdict ⌝ }
+{
+    match verdict {
         Verdict::Ended { read } => SelWalk {
             number: 0,
             verdict: 0,

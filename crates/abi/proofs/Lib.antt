@@ -1,4 +1,5 @@
 pub mod FromStore
+pub mod Indexing
 pub mod Laws
 pub mod LengthSays
 pub mod Walking

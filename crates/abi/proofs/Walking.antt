@@ -1,6 +1,6 @@
 -- The walk and the search for a slot, in numbers: what they carry fits 32 bits. Assumes nothing.
 use Prim.Native.Nat.{ℕ, _≤_, _<_}
-use mathlib.Core.Path.{_≡_, refl, sym, ap, subst, _∙_}
+use mathlib.Core.Path.{_≡_, refl, sym, ap, _∙_}
 use mathlib.Core.List.{List}
 use mathlib.Core.Logic.{inr}
 use native.Mathlib.Decide.{decLe}
@@ -11,7 +11,7 @@ use Rattle.ids.specs.Ids.{recordId}
 use Rattle.ids.specs.declared.RecordId.{RecordId}
 use Rattle.capture.specs.Listing.{readOf}
 use Rattle.capture.specs.Refusals.{Bad}
-use Rattle.capture.specs.Slots.{count, firstSlot}
+use Rattle.capture.specs.Slots.{count}
 use Rattle.capture.specs.Walk.{verdict, walkOf}
 use Rattle.capture.specs.Walked.{Walked}
 use Rattle.capture.specs.declared.Found.{Found}
@@ -23,9 +23,9 @@ use Rattle.capture.proofs.Tested.{one-of-four}
 use Rattle.abi.specs.Walks.{Walks, countOf, foundAnswer, walkAnswer}
 use Rattle.abi.specs.declared.walk.SelWalk.{SelWalk}
 
--- what the search answers, of what it found
-pub found-is : (s : List ℕ) (id : ℕ) {x : RecordId} {f g : Found} → f ≡ firstSlot s (x .0) → x ≡ recordId id → f ≡ g → foundAnswer g ≡ foundAnswer (firstSlot s id)
-found-is s id p i e = ap foundAnswer (sym e ∙ p ∙ ap (λ (x : RecordId). firstSlot s (x .0)) i)
+-- what a search answers, of what it found
+pub found-is : (find : ℕ → Found) (id : ℕ) {x : RecordId} {f g : Found} → f ≡ find (x .0) → x ≡ recordId id → f ≡ g → foundAnswer g ≡ foundAnswer (find id)
+found-is find id p i e = ap foundAnswer (sym e ∙ p ∙ ap (λ (x : RecordId). find (x .0)) i)
 
 module _ (s : List ℕ) (b : ℕ) (old : List ℕ) where
   -- a verdict counts what was read
@@ -39,7 +39,7 @@ module _ (s : List ℕ) (b : ℕ) (old : List ℕ) where
       by (yes h) = omega arith
       by (no h) = absurd (fine (inr (omega arith)))
 
-  count-few : countOf (walkOf s b (length old)) ≤ 3000
+  pub count-few : countOf (walkOf s b (length old)) ≤ 3000
   count-few = by (answer s b old)
     where
       by : Answer s b old → countOf (walkOf s b (length old)) ≤ 3000
@@ -49,13 +49,12 @@ module _ (s : List ℕ) (b : ℕ) (old : List ℕ) where
           let z = ap countOf e ∙ counts ∙ sym (counted s b) in
           omega (arith, z, few s b, slots-few fine)
 
-  module _ {v : Verdict} {left : List ℕ} (p : Walked s b old v left) where
-    pub counted-few : {w : Verdict} → v ≡ w → countOf w ≤ 3000
-    counted-few e = subst (λ (x : Verdict). countOf x ≤ 3000) (sym (p .answered) ∙ e) count-few
+  pub counted-few : {v : Verdict} {left : List ℕ} → Walked s b old v left → countOf v ≤ 3000
+  counted-few p = rw (p .answered) count-few
 
-    pub walks : {r : SelWalk} → r ≡ walkAnswer v → Walks s b old r left
-    walks e =
-        record {
-          answered = e ∙ ap walkAnswer (p .answered);
-          leaves = p .leaves;
-        }
+  pub walks : {v : Verdict} {left : List ℕ} → Walked s b old v left → {r : SelWalk} → r ≡ walkAnswer v → Walks s b old r left
+  walks p e =
+      record {
+        answered = e ∙ ap walkAnswer (p .answered);
+        leaves = p .leaves;
+      }

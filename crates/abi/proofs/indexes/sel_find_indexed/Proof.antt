@@ -1,14 +1,15 @@
+-- `sel_find_indexed` meets its contract. Assumes nothing.
+use Rattle.index.specs.Find.{findIndexed}
+use Rattle.abi.proofs.Walking.{found-is}
 use borrow.Author.Needs.{needs}
 use Rattle.abi.proofs.indexes.sel_find_indexed.Statement.{statement}
 use Rattle.abi.proofs.indexes.sel_find_indexed.Tie as tie
 
--- src: return SelFound { found: 0, slot: 0 };
 returns : tie.Need-returns
-returns c = ?
+returns c = found-is (findIndexed _ _) _ (c .before .before .find-indexed .ensures) (c .before .before .before .new-raw .ensures) (c .enum-told .given .1)
 
--- src: #[no_mangle]
 returns-2 : tie.Need-returns-2
-returns-2 c = ?
+returns-2 c = found-is (findIndexed _ _) _ (c .before .before .before .find-indexed .ensures) (c .before .before .before .before .new-raw .ensures) (c .before .i .given .1)
 
 pub sel-find-indexed-spec : {M : Type 1} → statement M
 sel-find-indexed-spec =

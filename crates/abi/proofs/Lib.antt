@@ -1,4 +1,5 @@
 pub mod FromStore
+pub mod IndexSays
 pub mod Indexing
 pub mod Laws
 pub mod LengthSays

@@ -1,5 +1,6 @@
 pub mod Filled
 pub mod FromStore
+pub mod IndexSays
 pub mod Indexes
 pub mod LengthSays
 pub mod Questions

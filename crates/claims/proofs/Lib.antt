@@ -5,6 +5,7 @@ pub mod Demand1
 pub mod Demand3
 mod Equality
 pub mod Fields
+pub mod FindFast
 pub mod Header
 pub mod KeptBits
 mod Lines

@@ -6,6 +6,7 @@ pub mod Demand2
 pub mod Demand3
 pub mod Equality
 pub mod Fields
+pub mod FindFast
 pub mod Header
 pub mod KeptBits
 pub mod Promises

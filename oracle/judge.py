@@ -1,7 +1,8 @@
 """What the port has to answer: the Rust's answer, and the model's where it has one. Where both have one, the model's mapped back by model.ported, and by nothing
 else, must be the Rust's. The Rust has no versions, and its rule is that of 2.0: of a question with a version it is asked what follows, and under 1.5 its answer
 is narrowed first, as channels 8h to Bh are reserved there. Nor has it a writer: of an entry to write, with the bytes that it keeps or without, it is asked what it
-reads from the model's sixteen bytes, and of a record to write again what it reads from that."""
+reads from the model's sixteen bytes, and of a record to write again what it reads from that. Nor an index: there the model judges alone, and wrong.py has what its
+questions tell from it."""
 
 import sys
 
@@ -74,6 +75,11 @@ def due(question, rust):
     if not agree:
         stop(1, f"the Rust answers {rust}, and the model {modelled}: {question[:200]}")
     return answer
+
+
+def fits(question, due, answered):
+    """Whether an answer is the one that is due; of a lookup, with an index that is not right, one of those that are."""
+    return answered in due.split(model.OR) if question[:2] == "F " else answered == due
 
 
 def is_panic(question, rust):

@@ -1,7 +1,7 @@
 """The questions of the program `replay`, in the order of crates/replay/stdin.
 
-Their answers, crates/replay/stdout, come from four places: from model.py for lines that begin with p, w, s, D, V, L, M, K, N or `ported`, which the Rust
-does not have, for what is refused by its length or by a reservation of 0, which it tells less of, and for what E and G refuse, as it knows no versions (judge.py:
+Their answers, crates/replay/stdout, come from four places: from model.py for lines that begin with p, w, I, F, X, s, D, V, L, M, K, N or `ported`, which the
+Rust does not have, for what is refused by its length or by a reservation of 0, which it tells less of, and for what E and G refuse, as it knows no versions (judge.py:
 mapped back it must be the Rust's, which is asked e and g of what follows the version, and answers so what E and G accept; of lines
 that begin with e or = the two must say the same, and so must s and t of the times, and D and d, V and v of the event types, that the rules leave alone; what M
 and N write both must read as the entry that was asked for, and what K writes must be the entry that the Rust reads); from dump.py for
@@ -10,6 +10,7 @@ must say too; from the Rust for every other line. That a line is no question, `?
 """
 
 import hashlib
+import itertools
 import re
 
 import model
@@ -608,6 +609,165 @@ def long_walks():
     yield walk(3001, 3001, slots(line_of(*range(3001), LAST)))
 
 
+def with_index(index, capture):
+    """How an index is asked with its slots."""
+    return word(len(index)) + model.words(index) + capture
+
+
+def index_of(capture):
+    return model.right_index(model.ids_of(capture)[0])
+
+
+def lookup(id, index, capture):
+    return question("F", word(id) + with_index(index, capture))
+
+
+def indexed_walk(budget, places, index, capture):
+    return question("X", budget.to_bytes(4, "little") + word(places) + with_index(index, capture))
+
+
+def with_ids(*ids):
+    """Slots with these asked ids; each names the next one's, and the last closes."""
+    return slots(line_of(*ids, LAST))
+
+
+# Asked ids of twelve slots: equal ones side by side and apart, two that swap their bytes, the lowest and the highest.
+TWELVE = (5, LAST, 0x0100, 0, 5, 0x0001, 0x7FFF, 5, 0x8000, 0, 0x00FF, LAST)
+
+
+def short_ids():
+    """Three asked ids in every order, each any number of times, of up to four slots."""
+    for n in range(5):
+        yield from itertools.product((0x0001, 0x0100, 0x0101), repeat=n)
+
+
+def indexes():
+    """Of every short capture, of every shape of a walk and of the twelve slots; byte orders and bits of an id; every length to three slots."""
+    yield from (question("I", with_ids(*ids)) for ids in short_ids())
+    yield from (question("I", slots(links)) for links in shapes())
+    yield from (question("I", with_ids(*ids)) for ids in (TWELVE, TWELVE[::-1], WORDS, WORDS[::-1], *((1 << bit, 0) for bit in range(16))))
+    yield from (question("I", with_ids(3, 2, 1, 0)[:length]) for length in range(62))
+
+
+def lookups():
+    """With the right index: in every short capture ids that are there, or missing below, between or above; in the twelve slots each id and its neighbours; of a
+    length that is none, in the slots that are whole."""
+    for ids in short_ids():
+        yield from (lookup(id, index_of(with_ids(*ids)), with_ids(*ids)) for id in (0x0000, 0x0001, 0x0100, 0x0101) if len(ids) < 4 or id in ids)
+    near = {(id + by) % 2**16 for id in TWELVE for by in (-1, 0, 1)}
+    yield from (lookup(id, index_of(capture), capture) for capture in (with_ids(*TWELVE), with_ids(*WORDS[::-1])) for id in sorted({*near, *WORDS}))
+    for length in range(62):
+        capture = with_ids(3, 2, 1, 0)[:length]
+        yield lookup(2, index_of(capture), capture)
+
+
+def swapped(index, place):
+    """The number at the place behind the next one."""
+    return index[:place] + index[place:place + 2][::-1] + index[place + 2:]
+
+
+def faulty(right):
+    """The index with one fault: two numbers side by side swapped; another number, that of the place before, of no slot, or with another byte; a place short or long;
+    no place; the other way round, in slot order, all the same, none of a slot; twice."""
+    n = len(right)
+    for place, slot in enumerate(right):
+        yield swapped(right, place)
+        for wrong in (right[place - 1], n, n + 1, 0x8000, LAST, slot ^ 0x0100, slot << 8):
+            yield right[:place] + [wrong] + right[place + 1:]
+        yield from (right[:place] + right[place + 1:], right[:place + 1] + right[place:])
+    yield from ([], right[::-1], [*range(n)], [0] * n, [LAST] * n, right + right)
+    yield from (right + [more] for more in (0, n, LAST))
+    yield [n] + right
+
+
+def wrong_indexes(capture):
+    """Each once, and none that is right after all."""
+    right = index_of(capture)
+    return [[*index] for index in dict.fromkeys(map(tuple, faulty(right))) if [*index] != right]
+
+
+def vain_lookups():
+    """With an index that is not right, of ids that no slot has, so that there is nothing to find: below, between and above those of the slots; where there is no slot;
+    with many more numbers than slots."""
+    for ids in ((2, 4, 6), (6, 2, 2, 4)):
+        capture = with_ids(*ids)
+        yield from (lookup(id, index, capture) for index in wrong_indexes(capture) for id in (0, 3, 5, LAST))
+    for index in ([0], [1], [LAST], [0, 1, 2]):
+        yield from (lookup(id, index, capture) for id in (0, 1, LAST) for capture in (b"", RECORD))
+    yield from (lookup(id, [*range(k)], with_ids(2, 4, 6)) for k in (255, 256, 257) for id in (3, 7))
+
+
+def indexed_walks():
+    """Each shape of a walk, with its index; budgets and lists around its length. Budgets with a bit in each byte."""
+    for links in shapes():
+        n, index = len(links), index_of(slots(links))
+        for budget in sorted({0, 1, n, n + 1, 2**32 - 1}):
+            yield indexed_walk(budget, n, index, slots(links))
+        yield from (indexed_walk(n + 1, places, index, slots(links)) for places in (n - 1, n + 1) if places >= 0)
+    yield from (indexed_walk(1 << bit, 7, [*range(7)], slots(SEVEN)) for bit in (2, 8, 16, 24, 31))
+
+
+def checked_indexes():
+    """Of three slots every index of three numbers to 3, one of which is right. Of the twelve, of others with ids twice and of none each that is wrong by one fault,
+    and the index of other slots."""
+    for ids in itertools.product((0, 7), repeat=3):
+        yield from (indexed_walk(4, 3, [*index], with_ids(*ids)) for index in itertools.product(range(4), repeat=3))
+    for capture in (with_ids(*TWELVE), with_ids(0, 0, 0), with_ids(3, 0), with_ids(0), b""):
+        n = len(capture) // 20
+        yield from (indexed_walk(n + 1, n, index, capture) for index in wrong_indexes(capture))
+    seven = [links for links in shapes() if len(links) == 7]
+    yield from (indexed_walk(8, 7, index_of(slots(other)), slots(links)) for links in seven for other in seven if other != links)
+
+
+def refusals_in_order():
+    """What is bad by length, by index and by places, each alone and with the others; places and numbers that are too many come before all."""
+    for capture in (good := with_ids(0, 2, 1), good + b"\x00", good[:41]):
+        right, n = index_of(capture), len(capture) // 20
+        for index in ([0, 2, 1], [0, 1, 2], right, right[:-1], right + [n], []):
+            yield from (indexed_walk(budget, places, index, capture) for budget in (0, n + 1) for places in (0, n - 1, n, n + 1, 3000, 3001, 3002, LAST)
+                        if budget or places < 3000)
+
+
+def cut_questions():
+    """What stops inside its own fields, or inside the slots; a number of numbers that the bytes do not hold, or that is too many."""
+    capture = with_ids(0, 2, 1)
+    for whole in (lookup(LAST, [0, 2, 1], capture), indexed_walk(4, 3, [0, 2, 1], capture), lookup(LAST, [], b""), indexed_walk(1, 0, [], b"")):
+        yield from (whole[:2 + 2 * length] for length in range((len(whole) - 2) // 2 + 1))
+    for head in (("F", word(9)), ("X", (4).to_bytes(4, "little") + word(3))):
+        yield from (question(head[0], head[1] + word(k) + model.words([0, 2, 1]) + capture) for k in (4, 32, 33, 34, 0x0100, 0x0300, 3001, 3002, 0x8000, LAST))
+    for k in (3001, 3002):
+        yield from (lookup(9, [*range(k)], capture), indexed_walk(4, 3, [*range(k)], capture))
+
+
+def shuffled(links):
+    """Without order, but the same each time."""
+    return sorted(links, key=lambda link: any_bytes(link[0], 8))
+
+
+def middling():
+    """Slots whose numbers need a second byte: in reverse, shuffled, in a circle, with equal ids far apart; of the latter two numbers swapped."""
+    chain, apart = line_of(*range(257), LAST), with_ids(*(0x0100 * (k % 3) + k % 64 for k in range(257)))
+    right = index_of(apart)
+    yield from (question("I", capture) for capture in (slots(chain[::-1]), apart))
+    yield from (indexed_walk(258, 257, index_of(capture), capture) for capture in (slots(shuffled(chain)), slots(shuffled(line_of(*range(257), 0))), apart))
+    yield from (lookup(id, right, apart) for id in (0x0100, 0x0201, 0x013F))
+    place = next(place for place, pair in enumerate(zip(right, right[1:])) if apart[20 * pair[0]:][:2] == apart[20 * pair[1]:][:2])
+    yield indexed_walk(258, 257, swapped(right, place), apart)
+
+
+def most_slots():
+    """The most slots: without order, ids twice and both ends of the ids among them; in order; shuffled; a circle in reverse; equal ids, the last two numbers
+    swapped. Then one slot too many."""
+    chain, any_ids = line_of(*range(3000), LAST), [model.number(any_bytes(k, 2)) for k in range(2996)]
+    yield question("I", with_ids(LAST, 0, *any_ids, LAST, 0))
+    yield lookup(2999, [*range(3000)], slots(chain))
+    yield indexed_walk(3001, 3000, index_of(slots(shuffled(chain))), slots(shuffled(chain)))
+    yield indexed_walk(2**32 - 1, 3001, [*range(3000)][::-1], slots(line_of(*range(3000), 0)[::-1]))
+    yield indexed_walk(3001, 3000, [*range(2998), 2999, 2998], slots([(0, 0)] * 3000))
+    yield question("I", slots([(0, LAST)] * 3001))
+    yield indexed_walk(3002, 3001, [*range(3001)], slots(line_of(*range(3001), LAST)))
+
+
 PARSERS = {"e": "entry", "g": "answer"}
 
 
@@ -619,19 +779,20 @@ def parsed(asked):
             yield name + line[1:]
 
 
-LETTERS = "eygpiarcdvDVLEGMKNxtsnqw="
+LETTERS = "eygpiarcdvDVLEGMKNxtsnqwIFX="
 WORDED = ("channel", "unit", "ported")
 FIXED = {"d": 3, "v": 3, "D": 4, "V": 4, "L": 5, "x": 3, "t": 4, "s": 4, "n": 2, "channel": 1, "unit": 1, "ported": 6, "=": 32, "N": 29}
 
 
 def malformed():
     """What answers `?`, as far as it stands in one line."""
-    whole = {"M": joined(SYSTEM), "K": word(16) + RECORD, "N": joined(parsed_from(RECORD))}
+    whole = {"M": joined(SYSTEM), "K": word(16) + RECORD, "N": joined(parsed_from(RECORD)),
+             "I": with_ids(0), "F": word(0) + with_index([0], with_ids(0)), "X": bytes(6) + with_index([0], with_ids(0))}
     yield ""
     yield from (chr(c) for c in (0x00, 0x09, 0x0D, 0x20, 0x7F, 0xE9))
     for kind in (*LETTERS, *WORDED, *PARSERS.values()):
         lines = (kind, kind + "00", kind.upper() + " 00", kind + kind + " 00", f" {kind} 00", f"{kind}  00", f"{kind}\t00", f"{kind}:00")
-        yield from (line for line in lines if line not in ("E 00", "G 00"))  # these two have a version, so they are questions
+        yield from (line for line in lines if line not in ("E 00", "G 00", "I 00"))  # these are questions: two have a version, one has a bad capture
         good = question(kind, whole.get(kind, bytes([0xAB]) * FIXED.get(kind, 18)))
         yield from (good + "0", good.lower(), good + " ", good + "\r", good + "\0", good + " 00", good[:-1] + "G", good[:-1] + "/", good[:-1] + ":",
                     good[:-1] + "@", good[:-1] + "`", good[:-1] + "\xE9", good.replace(" ", " 0x"))
@@ -645,10 +806,10 @@ def malformed():
 
 def longest():
     """The most digits that a question can have, and two more."""
-    yield question("a", mixed(60_100))
-    yield question("a", mixed(60_101))
-    yield again(RECORD + mixed(60_100 - 18))
-    yield again(RECORD + mixed(60_101 - 18))
+    yield question("a", mixed(66_200))
+    yield question("a", mixed(66_201))
+    yield again(RECORD + mixed(66_200 - 18))
+    yield again(RECORD + mixed(66_201 - 18))
 
 
 LETTERED = [
@@ -656,7 +817,10 @@ LETTERED = [
     *lengths(), *lengths_alone(), *mapped_back(), *eight_answers(), *fields(), *timed_records(), *typed_records(), *unspecified_records(), *oem_records(),
     *damages(), *version_bytes(), *versioned_channels(), *versioned_types(), *versioned_lengths(), *versioned_damages(), *texts_of_records(),
     *pairs(), *entries_to_write(), *dict.fromkeys((*records_again(), *kept_entries())),
-    *record_ids(), *requests(), *small_walks(), *walk_edges(), *long_walks(), *malformed(), *longest(),
+    *record_ids(), *requests(), *small_walks(), *walk_edges(), *long_walks(),
+    *dict.fromkeys((*indexes(), *lookups(), *vain_lookups(), *indexed_walks(), *checked_indexes(), *refusals_in_order(), *cut_questions(),
+                    *middling(), *most_slots())),
+    *malformed(), *longest(),
 ]
 
 ASKED = [*LETTERED, *entries_of_records(LETTERED), *parsed(LETTERED)]

@@ -8,7 +8,7 @@ use std::io::{self, BufRead, Write};
 use std::panic;
 use std::str;
 
-const MOST_DIGITS: usize = 120_200;
+const MOST_DIGITS: usize = 132_400;
 
 /// `None` where the question is none that can be asked.
 fn answer(question: &str) -> Option<String> {

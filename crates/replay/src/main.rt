@@ -1,6 +1,7 @@
 // Answers questions in the flat form: one a line of standard input, one line of answer each. `stdin` and `stdout` are made by oracle/make.
 // A letter is asked of `flat`, which C and Rust call too; a record and a get-entry answer are also asked of their parsers, by a word.
 mod flats;
+mod indexes;
 mod parsers;
 mod sames;
 mod say;
@@ -11,15 +12,18 @@ use libc::STDIN_FILENO;
 use say::say;
 use say::up_to;
 
-// One place more than the longest question has, a letter, a space and 120,200 digits: a line that fills it is none.
-const LINE: usize = 120203;
+// One place more than the longest question has, a letter, a space and 132,400 digits: a line that fills it is none.
+const LINE: usize = 132403;
 
-const BYTES: usize = 60100;
+const BYTES: usize = 66200;
 
 // What a line asks about: a letter's kind, or one of five words; or it is no question.
 enum Asked {
     Letter(u8),
     Walk,
+    Index,
+    Find,
+    WalkIndexed,
     Same,
     Channel,
     Unit,
@@ -107,6 +111,9 @@ pub(crate) fn from_place(line: &[u8], at: usize) -> &[u8] {
 fn of_letter(letter: u8) -> Asked {
     match letter {
         b'w' => Asked::Walk,
+        b'I' => Asked::Index,
+        b'F' => Asked::Find,
+        b'X' => Asked::WalkIndexed,
         b'=' => Asked::Same,
         _ => Asked::Letter(letter),
     }
@@ -159,6 +166,9 @@ fn answer_to(asked: Asked, data: &[u8]) {
     match asked {
         Asked::Letter(letter) => flats::ask(letter, data),
         Asked::Walk => walks::walk(data),
+        Asked::Index => indexes::index(data),
+        Asked::Find => indexes::find(data),
+        Asked::WalkIndexed => indexes::walk(data),
         Asked::Same => sames::same(data),
         Asked::Channel => words::channel(data),
         Asked::Unit => words::unit(data),

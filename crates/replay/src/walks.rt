@@ -9,9 +9,9 @@ use field::le32_at;
 use field::numbers::BAD_CAPTURE;
 use field::numbers::NO_ROOM;
 
-const MOST_PLACES: usize = 3001;
+pub(crate) const MOST_PLACES: usize = 3001;
 
-fn say_places(list: &[u16]) {
+pub(crate) fn say_places(list: &[u16]) {
     let mut i = 0;
     while i < list.len() {
         say_le16(list[i]);
@@ -27,8 +27,8 @@ fn say_walk(verdict: u8, ask: u16, read: usize, list: &[u16]) {
     say_places(list);
 }
 
-fn walk_into(slots: &[u8], budget: usize, list: &mut [u16]) {
-    match capture::walk(slots, budget, list) {
+pub(crate) fn say_verdict(verdict: Verdict, list: &[u16]) {
+    match verdict {
         Verdict::Ended { read } => say_walk(0, 0, read, list),
         Verdict::Missing { ask, read } => say_walk(1, ask.value(), read, list),
         Verdict::Spent { ask, read } => say_walk(2, ask.value(), read, list),
@@ -36,6 +36,11 @@ fn walk_into(slots: &[u8], budget: usize, list: &mut [u16]) {
         Verdict::NoRoom(n) => say_refusal(NO_ROOM, n),
         Verdict::BadCapture => say_refusal(BAD_CAPTURE, 0),
     }
+}
+
+fn walk_into(slots: &[u8], budget: usize, list: &mut [u16]) {
+    let verdict = capture::walk(slots, budget, list);
+    say_verdict(verdict, list);
 }
 
 pub(crate) fn walk(data: &[u8]) {

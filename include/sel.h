@@ -6,9 +6,9 @@
  * allocated, and every call ends. The statements: crates/abi has each contract, crates/claims what is said here beyond them.
  *
  * Numbers handed back (docs/SCOPE.md): 0 accepted, 1 too short, 2 unknown record type, 3 invalid channel, 4 no room,
- * 5 bad capture, 7 no such record, 8 too long, 9 a reservation of 0, 11 no such version; 255 no such letter, command or
- * number, or not the bytes of one. Where the number is not 0, every lent slice is as it was. Where it is 0, what stands
- * behind the bytes written is as it was. */
+ * 5 bad capture, 7 no such record, 8 too long, 9 a reservation of 0, 10 wrong index, 11 no such version; 255 no such
+ * letter, command or number, or not the bytes of one. Where the number is not 0, every lent slice is as it was. Where it
+ * is 0, what stands behind the bytes written is as it was. */
 #ifndef SEL_H
 #define SEL_H
 
@@ -20,8 +20,9 @@ extern "C" {
 #endif
 
 /* number: as above.
- * value:  what it carries: the bytes written where the number is 0, or of sel_channel and sel_unit the number asked; the bytes that the answer
- *         needs where it is 1, the record type where it is 2, the channel where it is 3, the room needed where it is 4; else 0. */
+ * value:  what it carries: the bytes written where the number is 0, or of sel_channel and sel_unit the number asked, and of
+ *         sel_index_make and sel_index_add the places written; the bytes that the answer needs where it is 1, the record
+ *         type where it is 2, the channel where it is 3, the room needed where it is 4; else 0. */
 typedef struct SelAnswer {
     uint32_t number;
     size_t value;
@@ -259,7 +260,7 @@ uint32_t sel_slots_length(size_t len);
 /* 1 and the number, from 0, of the first whole slot that was asked for with the id; 0 and 0 where there is none. */
 SelFound sel_find(const uint8_t *slots, size_t slots_length, uint16_t id);
 
-/* number:  0, 4 or 5.
+/* number:  0, 4 or 5; of sel_walk_indexed 10 too.
  * verdict: 0 ended, 1 missing, 2 spent, 3 circle; 0 for a refusal.
  * ask:     the id asked in vain (missing), or next to ask (spent); else 0.
  * read:    the slots found, the closing one included; of a circle all slots; 0 for a refusal.
@@ -278,6 +279,37 @@ typedef struct SelWalk {
  * The first `read` places of the list hold the numbers of the slots, in the order found; the rest are as they were.
  * 5 for slots that are no multiple of 20 bytes or over 60,000; then 4 for a list with fewer places than there are slots, whatever the budget. */
 SelWalk sel_walk(const uint8_t *slots, size_t slots_length, size_t budget, uint16_t *list, size_t list_length);
+
+/* Makes the index of a capture, to be kept beside it: the numbers of the slots, from 0, in order of the id that was asked
+ * for, equal ids in the order of the slots. A capture has exactly one. Of n slots it is written to the first n places of
+ * index, and to those of scratch, which the making needs: two slices of n places suffice, and of 3,000 for any capture.
+ * The places behind, of either, are as they were. Accepted with n.
+ * 5 for slots that are no multiple of 20 bytes or over 60,000; then 4 with n for fewer than n places in either. */
+SelAnswer sel_index_make(const uint8_t *slots, size_t slots_length, uint16_t *index, size_t index_length, uint16_t *scratch,
+                         size_t scratch_length);
+
+/* Extends an index by one slot, which was added behind the others. Where the first n - 1 places hold the index of the
+ * first n - 1 of n slots, the first n then hold that of all n, whatever stood in the n-th; the places behind are as they
+ * were. Accepted with n; of no slots with 0, and then nothing is written.
+ * 5 as sel_index_make; then 10 where the first n - 1 places do not hold that index, or are not there; then 4 with n for
+ * fewer than n places. */
+SelAnswer sel_index_add(const uint8_t *slots, size_t slots_length, uint16_t *index, size_t index_length);
+
+/* 0 exactly for the index of these slots, that which sel_index_make makes: n numbers for n slots, no more and no fewer.
+ * One pass, and nothing is written. 5 as sel_index_make; then 10 for any other list of numbers. */
+uint32_t sel_index_check(const uint8_t *slots, size_t slots_length, const uint16_t *index, size_t index_length);
+
+/* Looks up one slot by halving. The index is not checked here: with one that sel_index_check takes, it answers as sel_find
+ * does, for every id. With any other list of numbers, of any length, it is still safe, and a slot that it names is one of
+ * the whole slots and was asked for with the id; but it may be a later one with that id, and there may be one where it
+ * answers 0 and 0. */
+SelFound sel_find_indexed(const uint8_t *slots, size_t slots_length, const uint16_t *index, size_t index_length, uint16_t id);
+
+/* The walk by an index, which is checked once: with the right one it answers, and leaves the list, as sel_walk does, for
+ * every capture, budget and list.
+ * 5 as sel_walk; then 10 as sel_index_check, whatever the budget and the list; then 4 as sel_walk. */
+SelWalk sel_walk_indexed(const uint8_t *slots, size_t slots_length, const uint16_t *index, size_t index_length, size_t budget,
+                         uint16_t *list, size_t list_length);
 
 #ifdef __cplusplus
 }

@@ -156,12 +156,13 @@ pub extern "C" fn sel_length(kind: u8, len: usize) -> u32
 ''',
     'crates/field/specs/Handed.antt': ''.join(f'{x} = handed {n} []\n' for x, n in (
         ('notEnoughData', 1), ('unknownType t', 2), ('invalidChannel n', 3), ('noRoom n', 4), ('badCapture', 5), ('noSuchRecord', 7), ('tooLong', 8),
-        ('noReservation', 9), ('unnamedVersion', 11))),
+        ('noReservation', 9), ('wrongIndex', 10), ('unnamedVersion', 11))),
     RUST + 'connection.rs': 'const IPMI_1_5: u8 = 0x51;\nconst IPMI_2_0: u8 = 0x02;\n',
     RUST + 'refusal.rs': ''.join(f'const {x}: u32 = {n};\n' for x, n in (
-        ('TOO_SHORT', 1), ('UNKNOWN_TYPE', 2), ('INVALID_CHANNEL', 3), ('NO_SUCH_RECORD', 7), ('TOO_LONG', 8), ('NO_RESERVATION', 9))),
+        ('TOO_SHORT', 1), ('UNKNOWN_TYPE', 2), ('INVALID_CHANNEL', 3), ('NO_ROOM', 4), ('BAD_CAPTURE', 5), ('NO_SUCH_RECORD', 7), ('TOO_LONG', 8),
+        ('NO_RESERVATION', 9))) + 'pub(crate) const WRONG_INDEX: u32 = 10;\n',
     HEADER: '''/* 0 accepted, 1 too short, 2 unknown record type, 3 invalid channel, 4 no room, 5 bad capture, 7 no such record, 8 too long,
- * 9 a reservation of 0, 11 no such version; 255.
+ * 9 a reservation of 0, 10 wrong index, 11 no such version; 255.
  * A record of the log, 16 bytes or more: 1 with 16 under 16 bytes; 2 with the type. 1 with 18 under 18 bytes; then 2 and 3 as sel_entry.
  * 1 with 9 under 9 bytes; then 4. 1 with 14 under 14 bytes, 8 over 14. 1 with 2 under 2 bytes, then 9. 1 with 1 where it is empty.
  * value: 16 where it is 1, the record type where it is 2. Refused: under 16 for e, under 18 for g, under 14 for i, under 9 for a, under 2 for r,
@@ -283,6 +284,9 @@ CHANGED = [
     (HEADER, '9 a reservation', '10 a reservation', 'include/sel.h does not say: 0 accepted, 1 too short'),
     ('crates/field/specs/Handed.antt', 'tooLong = handed 8', 'tooLong = handed 10', 'refusal.rs: TOO_LONG is 8, and tooLong is 10'),
     (HEADER, '11 no such', '10 no such', 'include/sel.h does not say: 0 accepted, 1 too short'),
+    (HEADER, '10 wrong', '12 wrong', 'include/sel.h does not say: 0 accepted, 1 too short'),
+    (RUST + 'refusal.rs', 'WRONG_INDEX: u32 = 10', 'WRONG_INDEX: u32 = 12', 'refusal.rs: WRONG_INDEX is 12, and wrongIndex is 10'),
+    (RUST + 'refusal.rs', 'pub(crate) const', '// pub(crate) const', 'refusal.rs: WRONG_INDEX is None, and wrongIndex is 10'),
     (HEADER, 'SEL_IPMI_1_5 0x51', 'SEL_IPMI_1_5 0x15', 'SEL_IPMI_1_5 is 0x15, and ipmi15 is 0x51'),
     (HEADER, '#define SEL_IPMI_2_0 0x02\n', '', 'SEL_IPMI_2_0 is no number, and ipmi20 is 0x02'),
     (RUST + 'connection.rs', 'IPMI_2_0: u8 = 0x02', 'IPMI_2_0: u8 = 0x20', 'connection.rs: IPMI_2_0 is 0x20, and ipmi20 is 0x02'),

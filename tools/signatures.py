@@ -34,10 +34,10 @@ SAID = [
 # The numbers of refusals: what the header says of them, and the constants of Rust, with the names of the definitions.
 NUMBERS = 'crates/field/specs/Handed.antt'
 NAMED = ('0 accepted, {notEnoughData} too short, {unknownType} unknown record type, {invalidChannel} invalid channel, {noRoom} no room, {badCapture} bad capture, '
-         '{noSuchRecord} no such record, {tooLong} too long, {noReservation} a reservation of 0, {unnamedVersion} no such version;')
+         '{noSuchRecord} no such record, {tooLong} too long, {noReservation} a reservation of 0, {wrongIndex} wrong index, {unnamedVersion} no such version;')
 CONSTANTS = [
-    ('TOO_SHORT', 'notEnoughData'), ('UNKNOWN_TYPE', 'unknownType'), ('INVALID_CHANNEL', 'invalidChannel'), ('NO_SUCH_RECORD', 'noSuchRecord'), ('TOO_LONG', 'tooLong'),
-    ('NO_RESERVATION', 'noReservation'),
+    ('TOO_SHORT', 'notEnoughData'), ('UNKNOWN_TYPE', 'unknownType'), ('INVALID_CHANNEL', 'invalidChannel'), ('NO_ROOM', 'noRoom'), ('BAD_CAPTURE', 'badCapture'),
+    ('NO_SUCH_RECORD', 'noSuchRecord'), ('TOO_LONG', 'tooLong'), ('NO_RESERVATION', 'noReservation'), ('WRONG_INDEX', 'wrongIndex'),
 ]
 # The numbers of the versions: the header's macro, the constant of Rust, the definition.
 VERSIONS = [('SEL_IPMI_1_5', 'IPMI_1_5', 'ipmi15'), ('SEL_IPMI_2_0', 'IPMI_2_0', 'ipmi20')]
@@ -170,7 +170,7 @@ def number_faults(root):
         if said.format(**lengths, **numbers) not in header:
             yield f'{HEADER} does not say: {said.format(**lengths, **numbers)}'
     file = f'{RUST}/refusal.rs'
-    constants = dict(re.findall(r'(?m)^const (\w+): u32 = (\d+);$', bare(root / file)))
+    constants = dict(re.findall(r'(?m)^(?:pub\(crate\) )?const (\w+): u32 = (\d+);$', bare(root / file)))
     yield from (f'{file}: {name} is {constants.get(name)}, and {definition} is {numbers[definition]}'
                 for name, definition in CONSTANTS if constants.get(name) != numbers[definition])
 

@@ -95,6 +95,26 @@ mod library {
         pub fn sel_slots_length(len: usize) -> u32;
         pub fn sel_find(slots: *const u8, slots_length: usize, id: u16) -> Found;
         pub fn sel_walk(slots: *const u8, slots_length: usize, budget: usize, list: *mut u16, list_length: usize) -> Walk;
+        pub fn sel_index_make(
+            slots: *const u8,
+            slots_length: usize,
+            index: *mut u16,
+            index_length: usize,
+            scratch: *mut u16,
+            scratch_length: usize,
+        ) -> Answer;
+        pub fn sel_index_add(slots: *const u8, slots_length: usize, index: *mut u16, index_length: usize) -> Answer;
+        pub fn sel_index_check(slots: *const u8, slots_length: usize, index: *const u16, index_length: usize) -> u32;
+        pub fn sel_find_indexed(slots: *const u8, slots_length: usize, index: *const u16, index_length: usize, id: u16) -> Found;
+        pub fn sel_walk_indexed(
+            slots: *const u8,
+            slots_length: usize,
+            index: *const u16,
+            index_length: usize,
+            budget: usize,
+            list: *mut u16,
+            list_length: usize,
+        ) -> Walk;
     }
 }
 
@@ -221,4 +241,24 @@ pub(crate) fn find(slots: &[u8], id: u16) -> Found {
 
 pub(crate) fn walk(slots: &[u8], budget: usize, list: &mut [u16]) -> Walk {
     unsafe { library::sel_walk(slots.as_ptr(), slots.len(), budget, list.as_mut_ptr(), list.len()) }
+}
+
+pub(crate) fn index_make(slots: &[u8], index: &mut [u16], scratch: &mut [u16]) -> Answer {
+    unsafe { library::sel_index_make(slots.as_ptr(), slots.len(), index.as_mut_ptr(), index.len(), scratch.as_mut_ptr(), scratch.len()) }
+}
+
+pub(crate) fn index_add(slots: &[u8], index: &mut [u16]) -> Answer {
+    unsafe { library::sel_index_add(slots.as_ptr(), slots.len(), index.as_mut_ptr(), index.len()) }
+}
+
+pub(crate) fn index_check(slots: &[u8], index: &[u16]) -> u32 {
+    unsafe { library::sel_index_check(slots.as_ptr(), slots.len(), index.as_ptr(), index.len()) }
+}
+
+pub(crate) fn find_indexed(slots: &[u8], index: &[u16], id: u16) -> Found {
+    unsafe { library::sel_find_indexed(slots.as_ptr(), slots.len(), index.as_ptr(), index.len(), id) }
+}
+
+pub(crate) fn walk_indexed(slots: &[u8], index: &[u16], budget: usize, list: &mut [u16]) -> Walk {
+    unsafe { library::sel_walk_indexed(slots.as_ptr(), slots.len(), index.as_ptr(), index.len(), budget, list.as_mut_ptr(), list.len()) }
 }

@@ -1,5 +1,5 @@
 //! Why an answer is refused, as the library tells it; and by the library's own mapping, and no other, as the original does.
-//! Beside it the one refusal of an entry that is to be written.
+//! Beside it the one refusal of an entry that is to be written, and those of an index.
 
 use std::error::Error;
 use std::fmt;
@@ -12,9 +12,12 @@ use crate::storage::sel::ParseEntryError;
 const TOO_SHORT: u32 = 1;
 const UNKNOWN_TYPE: u32 = 2;
 const INVALID_CHANNEL: u32 = 3;
+pub(crate) const NO_ROOM: u32 = 4;
+const BAD_CAPTURE: u32 = 5;
 const NO_SUCH_RECORD: u32 = 7;
 const TOO_LONG: u32 = 8;
 const NO_RESERVATION: u32 = 9;
+const WRONG_INDEX: u32 = 10;
 
 /// Why an answer is refused, as finely as the library tells it. Not in ipmi-rs-core, which tells `TooShort`, `TooLong` and `NoReservation` all as
 /// `NotEnoughData`: its error is `From` this one.
@@ -128,3 +131,41 @@ impl From<Answer> for NoSuchRecord {
         NoSuchRecord
     }
 }
+
+/// Why an index of a capture's slots is refused. Not in ipmi-rs-core, which keeps none.
+#[derive(Debug, Clone, Copy, PartialEq, Eq)]
+pub enum IndexError {
+    /// The slots' bytes are not a multiple of [`SLOT`](crate::capture::SLOT), or over 60,000.
+    BadCapture,
+    /// It is not the index of these slots.
+    WrongIndex,
+}
+
+impl IndexError {
+    /// Of a number that the library refuses slots or their index with.
+    pub(crate) fn told(number: u32) -> Self {
+        match number {
+            WRONG_INDEX => Self::WrongIndex,
+            _ => Self::BadCapture,
+        }
+    }
+
+    /// The number of the refusal, as the project's docs/SCOPE.md has it.
+    pub fn number(&self) -> u32 {
+        match self {
+            Self::BadCapture => BAD_CAPTURE,
+            Self::WrongIndex => WRONG_INDEX,
+        }
+    }
+}
+
+impl fmt::Display for IndexError {
+    fn fmt(&self, f: &mut fmt::Formatter<'_>) -> fmt::Result {
+        match self {
+            Self::BadCapture => write!(f, "bad capture"),
+            Self::WrongIndex => write!(f, "wrong index"),
+        }
+    }
+}
+
+impl Error for IndexError {}

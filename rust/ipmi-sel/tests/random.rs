@@ -6,8 +6,8 @@ use std::num::{NonZeroU16, NonZeroU8};
 
 use dice::Dice;
 use ipmi_sel::capture::{
-    bytes_that_count, find, record_bytes, refusal, refused_length, refused_slots, same_entry, walk, AnswerKind, RefusedRecord, Walk,
-    WalkError, SLOT,
+    add_to_index, bytes_that_count, check_index, find, find_indexed, index_of, record_bytes, refusal, refused_length, refused_slots,
+    same_entry, walk, walk_indexed, AnswerKind, IndexError, RefusedRecord, Walk, WalkError, SLOT,
 };
 use ipmi_sel::connection::{Channel, ChannelNumber, LogicalUnit, Version};
 use ipmi_sel::storage::sdr::{decode_event, EventData, SensorType, TypedData, TypedData2, TypedData3};
@@ -455,4 +455,98 @@ fn walks_and_finds() {
         let first = slots.chunks_exact(SLOT).position(|slot| slot[..2] == id.value().to_le_bytes());
         assert_eq!(find(&slots, id), first);
     }
+}
+
+fn asked(slots: &[u8], slot: usize) -> u16 {
+    u16::from_le_bytes([slots[slot * SLOT], slots[slot * SLOT + 1]])
+}
+
+/// What the index of the whole slots must be, in a place of its own, by a sort that keeps the order of equal ids.
+fn sorted(slots: &[u8]) -> Box<[u16]> {
+    let mut numbers: Vec<_> = (0..(slots.len() / SLOT) as u16).collect();
+    numbers.sort_by_key(|number| asked(slots, usize::from(*number)));
+    numbers.into_boxed_slice()
+}
+
+/// The index, or with a number changed, moved, left out or put in; or any numbers.
+fn near_index(dice: &mut Dice, right: &[u16]) -> Box<[u16]> {
+    let n = right.len();
+    let mut numbers = right.to_vec();
+    let any = [dice.below(n + 2) as u16, dice.number() as u16][dice.below(2)];
+    match dice.below(8) {
+        0 if n > 0 => numbers[dice.below(n)] = any,
+        1 if n > 1 => numbers.swap(dice.below(n), dice.below(n)),
+        2 if n > 1 => {
+            let place = dice.below(n - 1);
+            numbers.swap(place, place + 1);
+        }
+        3 if n > 0 => drop(numbers.remove(dice.below(n))),
+        4 => numbers.insert(dice.below(n + 1), any),
+        5 => numbers = (0..dice.below(n + 3)).map(|_| dice.below(n + 1) as u16).collect(),
+        _ => (),
+    }
+    numbers.into_boxed_slice()
+}
+
+/// The slots with this list of numbers: what is right of it by the sort, and what is said without an index.
+fn check_indexed(dice: &mut Dice, slots: &[u8], right: &[u16], numbers: &[u16]) -> bool {
+    let refused = match () {
+        _ if refused_slots(slots.len()) => Some(IndexError::BadCapture),
+        _ if numbers != right => Some(IndexError::WrongIndex),
+        _ => None,
+    };
+    assert_eq!(check_index(slots, numbers).err(), refused);
+
+    let id = RecordId::new(dice.below(14) as u16).unwrap_or([RecordId::FIRST, RecordId::LAST][dice.below(2)]);
+    let found = find_indexed(slots, numbers, id);
+    assert!(found.map_or(true, |slot| slot < right.len() && asked(slots, slot) == id.value()));
+    assert!(numbers != right || found == find(slots, id));
+
+    let budget = [dice.below(14), dice.below(4000), usize::MAX][dice.below(3)];
+    let places = (right.len() + dice.below(4)).saturating_sub(1);
+    let mut lists = [(); 2].map(|()| vec![0xEEEE; places].into_boxed_slice());
+    let walked = walk_indexed(slots, numbers, budget, &mut lists[0]);
+    let expected = match refused {
+        None | Some(IndexError::BadCapture) => walk(slots, budget, &mut lists[1]),
+        Some(IndexError::WrongIndex) => Err(WalkError::WrongIndex),
+    };
+    assert_eq!((walked, &lists[0]), (expected, &lists[1]));
+    refused.is_none()
+}
+
+/// The index of all slots but the last, or a list near it, extended.
+fn check_added(dice: &mut Dice, slots: &[u8], right: &[u16]) -> bool {
+    let n = right.len();
+    let before: Box<[u16]> = right.iter().copied().filter(|number| usize::from(*number) + 1 < n).collect();
+    let numbers = near_index(dice, &before);
+    let mut index = numbers.to_vec();
+    let refused = match () {
+        _ if refused_slots(slots.len()) => Some(IndexError::BadCapture),
+        _ if !numbers.starts_with(&before) => Some(IndexError::WrongIndex),
+        _ => None,
+    };
+    assert_eq!(add_to_index(slots, &mut index).err(), refused);
+    assert_eq!(index, if refused.is_some() { &numbers[..] } else { right });
+    refused.is_none()
+}
+
+#[test]
+fn indexes() {
+    let mut dice = Dice::new(8);
+    let (mut taken, mut added) = (0, 0);
+    for call in 0..CALLS {
+        let slots = match call % 10_000 {
+            0 => [2999, 3000, 3001][dice.below(3)],
+            _ => dice.below(12),
+        };
+        let slots = capture(&mut dice, slots);
+        let right = sorted(&slots);
+        let made = index_of(&slots);
+        assert_eq!(made.as_deref().ok(), (!refused_slots(slots.len())).then_some(&right[..]));
+        let numbers = near_index(&mut dice, &right);
+        taken += usize::from(check_indexed(&mut dice, &slots, &right, &numbers));
+        added += usize::from(check_added(&mut dice, &slots, &right));
+    }
+    assert!((CALLS / 5..CALLS / 5 * 4).contains(&(taken as u64)), "{taken} indexes were right");
+    assert!((CALLS / 5..CALLS / 5 * 4).contains(&(added as u64)), "{added} slots were added");
 }

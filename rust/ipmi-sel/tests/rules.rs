@@ -4,8 +4,8 @@ use std::fmt;
 use std::num::{NonZeroU16, NonZeroU8};
 
 use ipmi_sel::capture::{
-    bytes_that_count, find, record_bytes, refusal, refused_length, refused_slots, same_entry, walk, AnswerKind, RefusedRecord, Verdict,
-    Walk, WalkError,
+    add_to_index, bytes_that_count, check_index, find, find_indexed, index_of, record_bytes, refusal, refused_length, refused_slots,
+    same_entry, walk, walk_indexed, AnswerKind, IndexError, RefusedRecord, Verdict, Walk, WalkError,
 };
 use ipmi_sel::connection::{Channel, ChannelNumber, LogicalUnit, NotEnoughData, Version};
 use ipmi_sel::nonmax::NonMaxU8;
@@ -866,4 +866,111 @@ fn finds() {
     assert_eq!(find(&capture, record_id(7)), Some(1));
     assert_eq!(find(&capture, record_id(1)), None);
     assert_eq!(find(&capture[..19], RecordId::FIRST), None);
+}
+
+/// Ids 0000h and FFFFh among them, and two that are asked for twice.
+const LINKS: [(u16, u16); 6] = [(5, 1), (0, 5), (5, 0xFFFF), (0xFFFF, 0), (0, 9), (0x0100, 0xFFFF)];
+
+/// By asked id, 0, 0, 5, 5, 0100h, FFFFh, and of equal ids the earlier slot first.
+const INDEX: [u16; 6] = [1, 4, 0, 2, 5, 3];
+
+#[test]
+fn indexes() {
+    let capture = slots(&LINKS);
+    assert_eq!(index_of(&capture), Ok(INDEX.to_vec()));
+    assert_eq!(index_of(&[]), Ok(vec![]));
+    assert_eq!(index_of(&vec![0; 60_000]), Ok((0..3000).collect()));
+    for length in [1, 19, 21, 60_001, 60_020] {
+        let bad = vec![0; length];
+        assert_eq!(index_of(&bad), Err(IndexError::BadCapture));
+        assert_eq!(check_index(&bad, &[]), Err(IndexError::BadCapture));
+        assert_eq!(add_to_index(&bad, &mut vec![]), Err(IndexError::BadCapture));
+    }
+
+    assert_eq!(check_index(&capture, &INDEX), Ok(()));
+    assert_eq!(check_index(&[], &[]), Ok(()));
+    let wrong: [&[u16]; 9] = [
+        &[],
+        &[1, 4, 0, 2, 5],
+        &[1, 4, 0, 2, 5, 3, 3],
+        &[4, 1, 0, 2, 5, 3],
+        &[1, 4, 2, 0, 5, 3],
+        &[1, 4, 0, 2, 3, 5],
+        &[1, 4, 0, 0, 5, 3],
+        &[1, 4, 0, 2, 5, 6],
+        &[0, 1, 2, 3, 4, 5],
+    ];
+    for index in wrong {
+        assert_eq!(check_index(&capture, index), Err(IndexError::WrongIndex), "{index:?}");
+    }
+    assert_eq!((IndexError::BadCapture.number(), IndexError::BadCapture.to_string()), (5, "bad capture".into()));
+    assert_eq!((IndexError::WrongIndex.number(), IndexError::WrongIndex.to_string()), (10, "wrong index".into()));
+}
+
+#[test]
+fn an_index_that_grows() {
+    let (capture, mut index) = (slots(&LINKS), vec![]);
+    let steps: [&[u16]; 7] = [&[], &[0], &[1, 0], &[1, 0, 2], &[1, 0, 2, 3], &[1, 4, 0, 2, 3], &INDEX];
+    for (slots, expected) in steps.into_iter().enumerate() {
+        assert_eq!((add_to_index(&capture[..slots * 20], &mut index), &index[..]), (Ok(()), expected));
+    }
+
+    let added = |index: &[u16]| {
+        let mut index = index.to_vec();
+        (add_to_index(&capture, &mut index), index)
+    };
+    let wrong: [&[u16]; 6] = [&[], &[1], &steps[4][..3], steps[4], &INDEX, &[1, 4, 0, 3, 2]];
+    for index in wrong {
+        assert_eq!(added(index), (Err(IndexError::WrongIndex), index.to_vec()));
+    }
+    // What stands behind the index of the slots before is not looked at.
+    assert_eq!(added(&[1, 4, 0, 2, 3, 9, 9]), (Ok(()), INDEX.to_vec()));
+    // One slot: there is none before it, and a place that is missing is not taken for its number.
+    let mut index = vec![7];
+    assert_eq!((add_to_index(&capture[..20], &mut index), &index[..]), (Ok(()), &[0][..]));
+    assert_eq!(add_to_index(&capture[..40], &mut vec![]), Err(IndexError::WrongIndex));
+    assert_eq!((add_to_index(&[], &mut index), &index[..]), (Ok(()), &[][..]));
+}
+
+#[test]
+fn finds_by_an_index() {
+    let capture = slots(&LINKS);
+    for (id, slot) in [(RecordId::FIRST, Some(1)), (record_id(5), Some(0)), (record_id(0x0100), Some(5)), (RecordId::LAST, Some(3))] {
+        assert_eq!((find_indexed(&capture, &INDEX, id), find(&capture, id)), (slot, slot));
+    }
+    for id in [1, 4, 6, 0x00FF, 0x0101, 0xFFFE].map(record_id) {
+        assert_eq!((find_indexed(&capture, &INDEX, id), find(&capture, id)), (None, None));
+    }
+    // The weaker case: a later slot with the id, or none though there is one; never a slot with another id.
+    assert_eq!(find_indexed(&capture, &[4, 1, 2, 0, 5, 3], record_id(5)), Some(2));
+    assert_eq!(find_indexed(&capture, &[3, 5, 2, 0, 4, 1], RecordId::FIRST), None);
+    assert_eq!(find_indexed(&capture, &[], RecordId::FIRST), None);
+    assert_eq!(find_indexed(&capture, &[6; 6], RecordId::FIRST), None);
+    assert_eq!(find_indexed(&[], &INDEX, RecordId::FIRST), None);
+}
+
+#[test]
+fn walks_by_an_index() {
+    let capture = slots(&LINKS);
+    let walked = |index: &[u16], budget, places| {
+        let mut list = vec![0xEEEE; places];
+        (walk_indexed(&capture, index, budget, &mut list), list)
+    };
+    let found = |verdict, read| Ok(Walk { verdict, read });
+    // 0000h at slot 1, then 0005h at slot 0, then 0001h, which no slot has.
+    assert_eq!(walked(&INDEX, 7, 6), (found(Verdict::Missing(record_id(1)), 2), vec![1, 0, 0xEEEE, 0xEEEE, 0xEEEE, 0xEEEE]));
+    assert_eq!(walked(&INDEX, 2, 6), (found(Verdict::Spent(record_id(1)), 2), vec![1, 0, 0xEEEE, 0xEEEE, 0xEEEE, 0xEEEE]));
+    assert_eq!(walked(&INDEX, 7, 5), (Err(WalkError::NoRoom(6)), vec![0xEEEE; 5]));
+    // Wrong before no room, and bad before wrong.
+    for places in [0, 5, 6, 7] {
+        assert_eq!(walked(&INDEX[..5], 7, places), (Err(WalkError::WrongIndex), vec![0xEEEE; places]));
+        assert_eq!(walked(&[4, 1, 0, 2, 5, 3], 7, places), (Err(WalkError::WrongIndex), vec![0xEEEE; places]));
+        assert_eq!(walk_indexed(&capture[1..], &INDEX, 7, &mut vec![0; places]), Err(WalkError::BadCapture));
+        assert_eq!(walk_indexed(&[0; 60_020], &[], 7, &mut vec![0; places]), Err(WalkError::BadCapture));
+    }
+    let mut list = [0xEEEE; 2];
+    assert_eq!(walk_indexed(&slots(&[(0, 7), (7, 0xFFFF)]), &[0, 1], 3, &mut list), found(Verdict::Ended, 2));
+    assert_eq!(list, [0, 1]);
+    assert_eq!(walk_indexed(&slots(&[(7, 0), (0, 7)]), &[1, 0], 3, &mut list), found(Verdict::Circle, 2));
+    assert_eq!(list, [1, 0]);
 }

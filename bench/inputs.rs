@@ -1,7 +1,9 @@
 //! The rows, and the inputs of each, made by fixed rules: the same in every run and for both sides.
 
+use std::rc::Rc;
+
 use crate::ours::answers;
-use crate::{kinds, original, ours, Call, Room, Row};
+use crate::{kinds, nothing, original, ours, Call, Room, Row};
 
 /// Inputs of a row all have the length that its calls read.
 #[inline(always)]
@@ -15,15 +17,20 @@ pub fn word(low: u8, high: u8) -> u16 {
     u16::from_le_bytes([low, high])
 }
 
+/// The number after this one, in a row that looks random.
+fn stepped(mut x: u32) -> u32 {
+    x ^= x << 13;
+    x ^= x >> 17;
+    x ^ x << 5
+}
+
 /// 256 records, all accepted: 192 of the system, 32 of each kind of OEM.
 fn records() -> Vec<Vec<u8>> {
     let record = |i: u32| {
         let mut x = i.wrapping_mul(2654435761).wrapping_add(12345);
         let mut record: Vec<u8> = (0..16)
             .map(|_| {
-                x ^= x << 13;
-                x ^= x >> 17;
-                x ^= x << 5;
+                x = stepped(x);
                 x as u8
             })
             .collect();
@@ -79,9 +86,28 @@ fn slot(ask: u16, next: u16) -> Vec<u8> {
     [&ask.to_le_bytes()[..], &next.to_le_bytes(), &[0; 16]].concat()
 }
 
+/// The slots asked for with these ids, all from 0 on: each names the one above it, and the highest `end`.
+fn laid(ids: &[u16], end: u16) -> Vec<u8> {
+    let n = ids.len() as u16;
+    ids.iter().flat_map(|&ask| slot(ask, if ask + 1 == n { end } else { ask + 1 })).collect()
+}
+
+fn falling(n: u16) -> Vec<u16> {
+    (0..n).rev().collect()
+}
+
+fn shuffled(n: u16) -> Vec<u16> {
+    let (mut ids, mut x): (Vec<u16>, u32) = ((0..n).collect(), 20);
+    for k in (1..ids.len()).rev() {
+        x = stepped(x);
+        ids.swap(k, x as usize % (k + 1));
+    }
+    ids
+}
+
 /// A chain in reverse order: the last slot is asked first.
 fn chain(n: u16) -> Vec<u8> {
-    (0..n).rev().flat_map(|ask| slot(ask, if ask + 1 == n { 0xFFFF } else { ask + 1 })).collect()
+    laid(&falling(n), 0xFFFF)
 }
 
 /// The worst: a circle on the last slot, which every lookup goes to.
@@ -100,12 +126,21 @@ fn those(all: &[Vec<u8>], keep: impl Fn(&[u8]) -> bool) -> Vec<Vec<u8>> {
 type Answers = (fn(&[u8]) -> String, fn(&[u8], &mut Room) -> String);
 
 fn row(name: &str, inputs: Vec<Vec<u8>>, rust: Call, ours: Call, answers: Answers) -> Row {
-    Row { name: name.into(), inputs, tested: 0, rust: Some(rust), ours, answers }
+    Row { rust: Some(rust), ..of_ours(name.into(), inputs, 0, ours, answers) }
 }
 
 /// What the Rust does not have: the answers that the rules demand stand in for its own.
 fn of_ours(name: String, inputs: Vec<Vec<u8>>, tested: usize, ours: Call, answers: Answers) -> Row {
-    Row { name, inputs, tested, rust: None, ours, answers }
+    let (demanded, answer) = answers;
+    lent(name, inputs, tested, Rc::default(), ours, (move |input: &[u8], _: &Room| demanded(input), answer))
+}
+
+/// The same, of calls to which a capture is lent; what is demanded follows from it.
+fn lent(
+    name: String, inputs: Vec<Vec<u8>>, tested: usize, capture: Rc<Vec<u8>>, ours: Call,
+    (demanded, answer): (impl Fn(&[u8], &Room) -> String + 'static, fn(&[u8], &mut Room) -> String),
+) -> Row {
+    Row { name, inputs, tested, capture, rust: None, ours, alone: nothing, answers: (Box::new(demanded), answer) }
 }
 
 fn entries(records: &[Vec<u8>]) -> Vec<Row> {
@@ -308,6 +343,67 @@ fn searches() -> Vec<Row> {
         rows.push(of_ours(format!("find, last of {n}"), chain.clone(), n, ours::find, (found, answers::find)));
         rows.push(of_ours(format!("walk, chain of {n}"), chain, n * (n + 1) / 2, ours::walk, (ended, answers::walk)));
         rows.push(of_ours(format!("walk, circle of {n}"), circle, n * (n + 1), ours::walk, (in_circle, answers::walk)));
+    }
+    rows
+}
+
+/// The numbers of the slots, by a plain sort.
+pub fn index(capture: &[u8]) -> Vec<u16> {
+    let mut keys: Vec<(u16, u16)> = capture.chunks(20).zip(0..).map(|(slot, number)| (word(slot[0], slot[1]), number)).collect();
+    keys.sort();
+    keys.iter().map(|key| key.1).collect()
+}
+
+fn scanned(capture: &[u8], id: &[u8]) -> Option<usize> {
+    capture.chunks(20).position(|slot| slot[..2] == *id)
+}
+
+fn found_answer(id: &[u8], room: &Room) -> String {
+    scanned(&room.slots, id).map_or("0 0".into(), |slot| format!("1 {slot}"))
+}
+
+fn index_answer(_: &[u8], room: &Room) -> String {
+    format!("0 {} {:?}", room.index.len(), room.index)
+}
+
+/// Of a capture whose chain goes through all slots. It is settled by what the last one names.
+fn walked_answer(_: &[u8], room: &Room) -> String {
+    let (mut ask, mut list) = (&[0, 0][..], Vec::new());
+    for _ in 0..slots(&room.slots) {
+        let slot = scanned(&room.slots, ask).expect("a slot of the chain");
+        list.push(slot);
+        ask = &room.slots[20 * slot + 2..][..2];
+    }
+    let verdict = if ask == [0xFF, 0xFF] { 0 } else { 3 };
+    format!("0 verdict={verdict} ask=0 read={} needed=0 {list:?}", list.len())
+}
+
+/// With the index of a capture, and without it. The last of the ids that are sought by the index is no slot's.
+fn beside(which: &str, capture: Vec<u8>) -> Vec<Row> {
+    let (n, capture) = (slots(&capture), Rc::new(capture));
+    let asked: Vec<Vec<u8>> = capture.chunks(20).map(|slot| slot[..2].to_vec()).collect();
+    let and_absent = [&asked[..], &[vec![0xFF, 0xFF]]].concat();
+    let found = |name: &str, ids, tested, ours, answer| lent(format!("{name}, {which}"), ids, tested, capture.clone(), ours, (found_answer, answer));
+    let whole = |name: &str, ours, answers: (fn(&[u8], &Room) -> String, _)| lent(format!("{name}, {which}"), vec![vec![]], n, capture.clone(), ours, answers);
+    vec![
+        found("find by index", and_absent, 0, ours::find_indexed, answers::find_indexed),
+        found("find by full search", asked, n, ours::find_asked, answers::find_asked),
+        whole("index checked", ours::check_index, (|_, _| "0".into(), answers::check_index)),
+        whole("index made", ours::make_index, (index_answer, answers::make_index)),
+        Row { alone: ours::restore, ..whole("last slot added to the index", ours::add_to_index, (index_answer, answers::add_to_index)) },
+        whole("walk by index", ours::walk_indexed, (walked_answer, answers::walk_indexed)),
+        whole("walk by full search", ours::walk_asked, (walked_answer, answers::walk_asked)),
+    ]
+}
+
+pub fn indexed() -> Vec<Row> {
+    let mut rows = Vec::new();
+    for n in [10, 100, 1000, 3000] {
+        let rising: Vec<u16> = (0..n).collect();
+        rows.extend(beside(&format!("chain of {n}"), laid(&rising, 0xFFFF)));
+        rows.extend(beside(&format!("circle of {n}"), laid(&rising, 0)));
+        rows.extend(beside(&format!("reverse of {n}"), laid(&falling(n), 0xFFFF)));
+        rows.extend(beside(&format!("random of {n}"), laid(&shuffled(n), 0xFFFF)));
     }
     rows
 }

@@ -36,7 +36,7 @@ pub struct Room {
 }
 
 impl Room {
-    /// No place that a row's calls are to write has its answer from another row.
+    /// Lends a row's capture with its index. What the row's calls are to write, no other row has left there.
     fn lend(&mut self, capture: &[u8]) {
         self.slots = capture.to_vec();
         self.index = inputs::index(capture);
@@ -63,7 +63,7 @@ type Demanded = Box<dyn Fn(&[u8], &Room) -> String>;
 pub struct Row {
     name: String,
     inputs: Vec<Vec<u8>>,
-    /// Slots that a call tests; 0 where it is no search. A search is counted once.
+    /// Slots that a call tests, or goes over; 0 where it is short, and counted many times.
     tested: usize,
     /// What is lent to the calls, where it is not their input.
     capture: Rc<Vec<u8>>,
@@ -86,14 +86,14 @@ fn each(rounds: usize, inputs: &[Vec<u8>], call: Call, room: &mut Room) {
     }
 }
 
-fn list(rows: &[Row]) {
+fn list(rows: impl Iterator<Item = Row>) {
     for row in rows {
         let sides = if row.rust.is_some() { "rust ours" } else { "ours" };
         println!("{}\t{}\t{}\t{sides}", row.name, row.inputs.len(), row.tested);
     }
 }
 
-fn check<'a>(rows: impl Iterator<Item = &'a Row>, room: &mut Room) {
+fn check(rows: impl Iterator<Item = Row>, room: &mut Room) {
     let mut compared = 0;
     for row in rows {
         let (rust, ours) = &row.answers;
@@ -122,12 +122,11 @@ fn main() {
         scratch: [0; 3000],
     });
     ours::fill_store(&mut room);
-    let (rows, indexed) = (inputs::rows(), inputs::indexed());
-    let mut all = rows.iter().chain(&indexed);
+    let mut all = inputs::rows().chain(inputs::indexed());
     let words: Vec<String> = std::env::args().skip(1).collect();
     match words.iter().map(String::as_str).collect::<Vec<_>>()[..] {
-        ["rows"] => list(&rows),
-        ["indexed"] => list(&indexed),
+        ["rows"] => list(inputs::rows()),
+        ["indexed"] => list(inputs::indexed()),
         ["log"] => {
             for record in inputs::log() {
                 println!("{}", record.iter().map(|byte| format!("{byte:02X}")).collect::<String>());

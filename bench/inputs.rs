@@ -82,14 +82,18 @@ pub fn log() -> Vec<Vec<u8>> {
     (0..3000).map(with_id).collect()
 }
 
-fn slot(ask: u16, next: u16) -> Vec<u8> {
-    [&ask.to_le_bytes()[..], &next.to_le_bytes(), &[0; 16]].concat()
+fn slot(ask: u16, next: u16) -> [u8; 20] {
+    let mut slot = [0; 20];
+    slot[..2].copy_from_slice(&ask.to_le_bytes());
+    slot[2..4].copy_from_slice(&next.to_le_bytes());
+    slot
 }
 
 /// The slots asked for with these ids, all from 0 on: each names the one above it, and the highest `end`.
 fn laid(ids: &[u16], end: u16) -> Vec<u8> {
     let n = ids.len() as u16;
-    ids.iter().flat_map(|&ask| slot(ask, if ask + 1 == n { end } else { ask + 1 })).collect()
+    let of_id = |&ask: &u16| slot(ask, if ask + 1 == n { end } else { ask + 1 });
+    ids.iter().map(of_id).collect::<Vec<_>>().concat()
 }
 
 fn falling(n: u16) -> Vec<u16> {
@@ -112,7 +116,7 @@ fn chain(n: u16) -> Vec<u8> {
 
 /// The worst: a circle on the last slot, which every lookup goes to.
 fn circle(n: u16) -> Vec<u8> {
-    (0..n).rev().flat_map(|ask| slot(ask, 0)).collect()
+    falling(n).into_iter().map(|ask| slot(ask, 0)).collect::<Vec<_>>().concat()
 }
 
 fn cut(all: &[Vec<u8>], range: impl std::slice::SliceIndex<[u8], Output = [u8]> + Clone) -> Vec<Vec<u8>> {
@@ -378,16 +382,19 @@ fn walked_answer(_: &[u8], room: &Room) -> String {
     format!("0 verdict={verdict} ask=0 read={} needed=0 {list:?}", list.len())
 }
 
-/// With the index of a capture, and without it. The last of the ids that are sought by the index is no slot's.
+/// With the index of a capture, and without it. The last of the ids that are sought by the index is no slot's, and above all of them: an id in
+/// between is sought as the next one above it.
 fn beside(which: &str, capture: Vec<u8>) -> Vec<Row> {
     let (n, capture) = (slots(&capture), Rc::new(capture));
     let asked: Vec<Vec<u8>> = capture.chunks(20).map(|slot| slot[..2].to_vec()).collect();
     let and_absent = [&asked[..], &[vec![0xFF, 0xFF]]].concat();
-    let found = |name: &str, ids, tested, ours, answer| lent(format!("{name}, {which}"), ids, tested, capture.clone(), ours, (found_answer, answer));
-    let whole = |name: &str, ours, answers: (fn(&[u8], &Room) -> String, _)| lent(format!("{name}, {which}"), vec![vec![]], n, capture.clone(), ours, answers);
+    let lend = |name, inputs, tested, ours, answers: (fn(&[u8], &Room) -> String, _)| {
+        lent(format!("{name}, {which}"), inputs, tested, capture.clone(), ours, answers)
+    };
+    let whole = |name, ours, answers| lend(name, vec![vec![]], n, ours, answers);
     vec![
-        found("find by index", and_absent, 0, ours::find_indexed, answers::find_indexed),
-        found("find by full search", asked, n, ours::find_asked, answers::find_asked),
+        lend("find by index", and_absent, 0, ours::find_indexed, (found_answer, answers::find_indexed)),
+        lend("find by full search", asked, n, ours::find_asked, (found_answer, answers::find_asked)),
         whole("index checked", ours::check_index, (|_, _| "0".into(), answers::check_index)),
         whole("index made", ours::make_index, (index_answer, answers::make_index)),
         Row { alone: ours::restore, ..whole("last slot added to the index", ours::add_to_index, (index_answer, answers::add_to_index)) },
@@ -396,16 +403,15 @@ fn beside(which: &str, capture: Vec<u8>) -> Vec<Row> {
     ]
 }
 
-pub fn indexed() -> Vec<Row> {
-    let mut rows = Vec::new();
-    for n in [10, 100, 1000, 3000] {
-        let rising: Vec<u16> = (0..n).collect();
-        rows.extend(beside(&format!("chain of {n}"), laid(&rising, 0xFFFF)));
-        rows.extend(beside(&format!("circle of {n}"), laid(&rising, 0)));
-        rows.extend(beside(&format!("reverse of {n}"), laid(&falling(n), 0xFFFF)));
-        rows.extend(beside(&format!("random of {n}"), laid(&shuffled(n), 0xFFFF)));
-    }
-    rows
+fn orders(n: u16) -> [(&'static str, Vec<u16>, u16); 4] {
+    let rising: Vec<u16> = (0..n).collect();
+    [("chain", rising.clone(), 0xFFFF), ("circle", rising, 0), ("reverse", falling(n), 0xFFFF), ("random", shuffled(n), 0xFFFF)]
+}
+
+/// Made as they are asked for: a run needs one of them.
+pub fn indexed() -> impl Iterator<Item = Row> {
+    let all = [10, 100, 1000, 3000].into_iter().flat_map(orders);
+    all.flat_map(|(order, ids, end)| beside(&format!("{order} of {}", ids.len()), laid(&ids, end)))
 }
 
 /// By SCOPE's numbers: the least length, and for an info the only one.
@@ -460,14 +466,8 @@ fn lengths() -> Vec<Row> {
     ]
 }
 
-pub fn rows() -> Vec<Row> {
+pub fn rows() -> impl Iterator<Item = Row> {
     let records = records();
-    let mut rows = entries(&records);
-    rows.extend(written(&records));
-    rows.extend(others(&records));
-    rows.extend(texts(&records));
-    rows.extend(requests(&records));
-    rows.extend(lengths());
-    rows.extend(searches());
-    rows
+    let of_records = [entries, written, others, texts, requests];
+    of_records.into_iter().flat_map(move |rows| rows(&records)).chain(lengths()).chain(searches())
 }

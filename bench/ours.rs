@@ -104,7 +104,7 @@ unsafe fn request(command: u8, reservation: u16, argument: u16, room: &mut Room)
     sel_request(command, reservation, argument, room.out.as_mut_ptr(), room.out.len())
 }
 
-/// The index of all slots but the last one stands where a call has extended it.
+/// Puts back the index of all slots but the last one, which the call before has extended.
 #[inline(never)] // so that it is the same code where it is counted alone
 pub fn restore(nothing: &[u8], room: &mut Room) {
     room.made[..room.before.len()].copy_from_slice(&room.before);

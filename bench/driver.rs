@@ -18,12 +18,13 @@ use std::fmt;
 use std::hint::black_box;
 use std::rc::Rc;
 
-/// What is lent to every call. It stays as the call before has left it.
+/// What is lent to every call. It stays as the call before has left it. The order is fixed, since the caller's part of a call depends on it.
+#[repr(C)]
 pub struct Room {
+    pub starts: [u16; 640],
     pub out: [u8; 128],
     pub used: usize,
     pub store: [u8; 6435],
-    pub starts: [u16; 640],
     pub lengths: [u8; 640],
     pub list: [u16; 3000],
     /// A capture, its index, and the index of all slots but the last one.
@@ -109,10 +110,10 @@ fn check(rows: impl Iterator<Item = Row>, room: &mut Room) {
 
 fn main() {
     let mut room = Box::new(Room {
+        starts: [0; 640],
         out: [0; 128],
         used: 0,
         store: [0; 6435],
-        starts: [0; 640],
         lengths: [0; 640],
         list: [0; 3000],
         slots: Vec::new(),

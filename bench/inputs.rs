@@ -1,7 +1,9 @@
 //! The rows, and the inputs of each, made by fixed rules: the same in every run and for both sides.
 
+use std::rc::Rc;
+
 use crate::ours::answers;
-use crate::{kinds, original, ours, Call, Room, Row};
+use crate::{kinds, nothing, original, ours, Call, Room, Row};
 
 /// Inputs of a row all have the length that its calls read.
 #[inline(always)]
@@ -15,15 +17,20 @@ pub fn word(low: u8, high: u8) -> u16 {
     u16::from_le_bytes([low, high])
 }
 
+/// The number after this one, in a row that looks random.
+fn stepped(mut x: u32) -> u32 {
+    x ^= x << 13;
+    x ^= x >> 17;
+    x ^ x << 5
+}
+
 /// 256 records, all accepted: 192 of the system, 32 of each kind of OEM.
 fn records() -> Vec<Vec<u8>> {
     let record = |i: u32| {
         let mut x = i.wrapping_mul(2654435761).wrapping_add(12345);
         let mut record: Vec<u8> = (0..16)
             .map(|_| {
-                x ^= x << 13;
-                x ^= x >> 17;
-                x ^= x << 5;
+                x = stepped(x);
                 x as u8
             })
             .collect();
@@ -75,18 +82,41 @@ pub fn log() -> Vec<Vec<u8>> {
     (0..3000).map(with_id).collect()
 }
 
-fn slot(ask: u16, next: u16) -> Vec<u8> {
-    [&ask.to_le_bytes()[..], &next.to_le_bytes(), &[0; 16]].concat()
+fn slot(ask: u16, next: u16) -> [u8; 20] {
+    let mut slot = [0; 20];
+    slot[..2].copy_from_slice(&ask.to_le_bytes());
+    slot[2..4].copy_from_slice(&next.to_le_bytes());
+    slot
+}
+
+/// The slots asked for with these ids, all from 0 on: each names the one above it, and the highest `end`.
+fn laid(ids: &[u16], end: u16) -> Vec<u8> {
+    let n = ids.len() as u16;
+    let of_id = |&ask: &u16| slot(ask, if ask + 1 == n { end } else { ask + 1 });
+    ids.iter().map(of_id).collect::<Vec<_>>().concat()
+}
+
+fn falling(n: u16) -> Vec<u16> {
+    (0..n).rev().collect()
+}
+
+fn shuffled(n: u16) -> Vec<u16> {
+    let (mut ids, mut x): (Vec<u16>, u32) = ((0..n).collect(), 20);
+    for k in (1..ids.len()).rev() {
+        x = stepped(x);
+        ids.swap(k, x as usize % (k + 1));
+    }
+    ids
 }
 
 /// A chain in reverse order: the last slot is asked first.
 fn chain(n: u16) -> Vec<u8> {
-    (0..n).rev().flat_map(|ask| slot(ask, if ask + 1 == n { 0xFFFF } else { ask + 1 })).collect()
+    laid(&falling(n), 0xFFFF)
 }
 
 /// The worst: a circle on the last slot, which every lookup goes to.
 fn circle(n: u16) -> Vec<u8> {
-    (0..n).rev().flat_map(|ask| slot(ask, 0)).collect()
+    falling(n).into_iter().map(|ask| slot(ask, 0)).collect::<Vec<_>>().concat()
 }
 
 fn cut(all: &[Vec<u8>], range: impl std::slice::SliceIndex<[u8], Output = [u8]> + Clone) -> Vec<Vec<u8>> {
@@ -100,12 +130,21 @@ fn those(all: &[Vec<u8>], keep: impl Fn(&[u8]) -> bool) -> Vec<Vec<u8>> {
 type Answers = (fn(&[u8]) -> String, fn(&[u8], &mut Room) -> String);
 
 fn row(name: &str, inputs: Vec<Vec<u8>>, rust: Call, ours: Call, answers: Answers) -> Row {
-    Row { name: name.into(), inputs, tested: 0, rust: Some(rust), ours, answers }
+    Row { rust: Some(rust), ..of_ours(name.into(), inputs, 0, ours, answers) }
 }
 
 /// What the Rust does not have: the answers that the rules demand stand in for its own.
 fn of_ours(name: String, inputs: Vec<Vec<u8>>, tested: usize, ours: Call, answers: Answers) -> Row {
-    Row { name, inputs, tested, rust: None, ours, answers }
+    let (demanded, answer) = answers;
+    lent(name, inputs, tested, Rc::default(), ours, (move |input: &[u8], _: &Room| demanded(input), answer))
+}
+
+/// The same, of calls to which a capture is lent; what is demanded follows from it.
+fn lent(
+    name: String, inputs: Vec<Vec<u8>>, tested: usize, capture: Rc<Vec<u8>>, ours: Call,
+    (demanded, answer): (impl Fn(&[u8], &Room) -> String + 'static, fn(&[u8], &mut Room) -> String),
+) -> Row {
+    Row { name, inputs, tested, capture, rust: None, ours, alone: nothing, answers: (Box::new(demanded), answer) }
 }
 
 fn entries(records: &[Vec<u8>]) -> Vec<Row> {
@@ -312,6 +351,69 @@ fn searches() -> Vec<Row> {
     rows
 }
 
+/// The numbers of the slots, by a plain sort.
+pub fn index(capture: &[u8]) -> Vec<u16> {
+    let mut keys: Vec<(u16, u16)> = capture.chunks(20).zip(0..).map(|(slot, number)| (word(slot[0], slot[1]), number)).collect();
+    keys.sort();
+    keys.iter().map(|key| key.1).collect()
+}
+
+fn scanned(capture: &[u8], id: &[u8]) -> Option<usize> {
+    capture.chunks(20).position(|slot| slot[..2] == *id)
+}
+
+fn found_answer(id: &[u8], room: &Room) -> String {
+    scanned(&room.slots, id).map_or("0 0".into(), |slot| format!("1 {slot}"))
+}
+
+fn index_answer(_: &[u8], room: &Room) -> String {
+    format!("0 {} {:?}", room.index.len(), room.index)
+}
+
+/// Of a capture whose chain goes through all slots. It is settled by what the last one names.
+fn walked_answer(_: &[u8], room: &Room) -> String {
+    let (mut ask, mut list) = (&[0, 0][..], Vec::new());
+    for _ in 0..slots(&room.slots) {
+        let slot = scanned(&room.slots, ask).expect("a slot of the chain");
+        list.push(slot);
+        ask = &room.slots[20 * slot + 2..][..2];
+    }
+    let verdict = if ask == [0xFF, 0xFF] { 0 } else { 3 };
+    format!("0 verdict={verdict} ask=0 read={} needed=0 {list:?}", list.len())
+}
+
+/// With the index of a capture, and without it. The last of the ids that are sought by the index is no slot's, and above all of them: an id in
+/// between is sought as the next one above it.
+fn beside(which: &str, capture: Vec<u8>) -> Vec<Row> {
+    let (n, capture) = (slots(&capture), Rc::new(capture));
+    let asked: Vec<Vec<u8>> = capture.chunks(20).map(|slot| slot[..2].to_vec()).collect();
+    let and_absent = [&asked[..], &[vec![0xFF, 0xFF]]].concat();
+    let lend = |name, inputs, tested, ours, answers: (fn(&[u8], &Room) -> String, _)| {
+        lent(format!("{name}, {which}"), inputs, tested, capture.clone(), ours, answers)
+    };
+    let whole = |name, ours, answers| lend(name, vec![vec![]], n, ours, answers);
+    vec![
+        lend("find by index", and_absent, 0, ours::find_indexed, (found_answer, answers::find_indexed)),
+        lend("find by full search", asked, n, ours::find_asked, (found_answer, answers::find_asked)),
+        whole("index checked", ours::check_index, (|_, _| "0".into(), answers::check_index)),
+        whole("index made", ours::make_index, (index_answer, answers::make_index)),
+        Row { alone: ours::restore, ..whole("last slot added to the index", ours::add_to_index, (index_answer, answers::add_to_index)) },
+        whole("walk by index", ours::walk_indexed, (walked_answer, answers::walk_indexed)),
+        whole("walk by full search", ours::walk_asked, (walked_answer, answers::walk_asked)),
+    ]
+}
+
+fn orders(n: u16) -> [(&'static str, Vec<u16>, u16); 4] {
+    let rising: Vec<u16> = (0..n).collect();
+    [("chain", rising.clone(), 0xFFFF), ("circle", rising, 0), ("reverse", falling(n), 0xFFFF), ("random", shuffled(n), 0xFFFF)]
+}
+
+/// Made as they are asked for: a run needs one of them.
+pub fn indexed() -> impl Iterator<Item = Row> {
+    let all = [10, 100, 1000, 3000].into_iter().flat_map(orders);
+    all.flat_map(|(order, ids, end)| beside(&format!("{order} of {}", ids.len()), laid(&ids, end)))
+}
+
 /// By SCOPE's numbers: the least length, and for an info the only one.
 fn needed(kind: u8) -> u8 {
     match kind {
@@ -364,14 +466,8 @@ fn lengths() -> Vec<Row> {
     ]
 }
 
-pub fn rows() -> Vec<Row> {
+pub fn rows() -> impl Iterator<Item = Row> {
     let records = records();
-    let mut rows = entries(&records);
-    rows.extend(written(&records));
-    rows.extend(others(&records));
-    rows.extend(texts(&records));
-    rows.extend(requests(&records));
-    rows.extend(lengths());
-    rows.extend(searches());
-    rows
+    let of_records = [entries, written, others, texts, requests];
+    of_records.into_iter().flat_map(move |rows| rows(&records)).chain(lengths()).chain(searches())
 }

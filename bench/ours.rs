@@ -77,6 +77,15 @@ extern "C" {
     fn sel_slots_length(len: usize) -> u32;
     fn sel_find(slots: *const u8, slots_length: usize, id: u16) -> Found;
     fn sel_walk(slots: *const u8, slots_length: usize, budget: usize, list: *mut u16, list_length: usize) -> Walk;
+    fn sel_index_make(
+        slots: *const u8, slots_length: usize, index: *mut u16, index_length: usize, scratch: *mut u16, scratch_length: usize,
+    ) -> Answer;
+    fn sel_index_add(slots: *const u8, slots_length: usize, index: *mut u16, index_length: usize) -> Answer;
+    fn sel_index_check(slots: *const u8, slots_length: usize, index: *const u16, index_length: usize) -> u32;
+    fn sel_find_indexed(slots: *const u8, slots_length: usize, index: *const u16, index_length: usize, id: u16) -> Found;
+    fn sel_walk_indexed(
+        slots: *const u8, slots_length: usize, index: *const u16, index_length: usize, budget: usize, list: *mut u16, list_length: usize,
+    ) -> Walk;
 }
 
 pub fn fill_store(room: &mut Room) {
@@ -93,6 +102,12 @@ unsafe fn decode(kind: u8, data: &[u8], room: &mut Room) -> Answer {
 #[inline(always)]
 unsafe fn request(command: u8, reservation: u16, argument: u16, room: &mut Room) -> Answer {
     sel_request(command, reservation, argument, room.out.as_mut_ptr(), room.out.len())
+}
+
+/// Puts back the index of all slots but the last one, which the call before has extended.
+#[inline(never)] // so that it is the same code where it is counted alone
+pub fn restore(nothing: &[u8], room: &mut Room) {
+    room.made[..room.before.len()].copy_from_slice(&room.before);
 }
 
 /// Each call is said once: `NAME` makes it and keeps the answer, `answers::NAME` makes it and shows the answer in the form of `replay`.
@@ -199,6 +214,32 @@ calls! {
     find, slot: |slots, room| sel_find(slots.as_ptr(), slots.len(), 0x0000);
     // With one lookup more than there are slots.
     walk, verdict: |slots, room| sel_walk(slots.as_ptr(), slots.len(), slots.len() / 20 + 1, room.list.as_mut_ptr(), room.list.len());
+    // From here on the capture is the one that is lent, and so is its index.
+    find_asked, slot: |id, room| {
+        let [low, high] = *fixed(id);
+        sel_find(room.slots.as_ptr(), room.slots.len(), word(low, high))
+    };
+    find_indexed, slot: |id, room| {
+        let [low, high] = *fixed(id);
+        sel_find_indexed(room.slots.as_ptr(), room.slots.len(), room.index.as_ptr(), room.index.len(), word(low, high))
+    };
+    check_index, number: |nothing, room| sel_index_check(room.slots.as_ptr(), room.slots.len(), room.index.as_ptr(), room.index.len());
+    make_index, index: |nothing, room| {
+        let Room { slots, made, scratch, .. } = room;
+        sel_index_make(slots.as_ptr(), slots.len(), made.as_mut_ptr(), made.len(), scratch.as_mut_ptr(), scratch.len())
+    };
+    add_to_index, index: |nothing, room| {
+        restore(nothing, room);
+        sel_index_add(room.slots.as_ptr(), room.slots.len(), room.made.as_mut_ptr(), room.made.len())
+    };
+    walk_asked, walked: |nothing, room| {
+        let Room { slots, list, .. } = room;
+        sel_walk(slots.as_ptr(), slots.len(), slots.len() / 20 + 1, list.as_mut_ptr(), list.len())
+    };
+    walk_indexed, walked: |nothing, room| {
+        let Room { slots, index, list, .. } = room;
+        sel_walk_indexed(slots.as_ptr(), slots.len(), index.as_ptr(), index.len(), slots.len() / 20 + 1, list.as_mut_ptr(), list.len())
+    };
 }
 
 /// A refusal is mapped back to the Rust's by the library's own mapping.
@@ -246,4 +287,13 @@ fn slot(answer: Found, _: &Room) -> String {
 
 fn verdict(answer: Walk, _: &Room) -> String {
     format!("{} verdict={} ask={} read={} needed={}", answer.number, answer.verdict, answer.ask, answer.read, answer.needed)
+}
+
+fn walked(answer: Walk, room: &Room) -> String {
+    let list = &room.list[..answer.read as usize];
+    format!("{} {list:?}", verdict(answer, room))
+}
+
+fn index(answer: Answer, room: &Room) -> String {
+    format!("{} {} {:?}", answer.number, answer.value, &room.made[..answer.value])
 }

@@ -20,20 +20,15 @@ pub(crate) fn index(data: &[u8]) {
     let mut index = [0u16; MOST_PLACES];
     let mut scratch = [0u16; MOST_PLACES];
     match index_make::make_index(data, &mut index, &mut scratch) {
-        MadeIndex::Made(n) => say_index(&index, n),
+        MadeIndex::Made(n) => {
+            say(b"0");
+            if 0 < n {
+                say(b" ");
+            }
+            say_places(&index, n);
+        }
         MadeIndex::NoRoom(n) => say_refusal(NO_ROOM, n),
         MadeIndex::BadCapture => say_refusal(BAD_CAPTURE, 0),
-    }
-}
-
-fn say_index(index: &[u16], n: usize) {
-    say(b"0");
-    if n == 0 {
-        return;
-    }
-    say(b" ");
-    if n <= index.len() {
-        say_places(&index[..n]);
     }
 }
 

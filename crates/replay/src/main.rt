@@ -108,23 +108,18 @@ pub(crate) fn from_place(line: &[u8], at: usize) -> &[u8] {
     &line[..0]
 }
 
-fn of_letter(letter: u8) -> Asked {
-    match letter {
-        b'w' => Asked::Walk,
-        b'I' => Asked::Index,
-        b'F' => Asked::Find,
-        b'X' => Asked::WalkIndexed,
-        b'=' => Asked::Same,
-        _ => Asked::Letter(letter),
-    }
-}
-
 fn question_in(line: &[u8]) -> Question {
     if field::byte_at(line, 1) == b' ' {
-        return Question {
-            asked: of_letter(field::byte_at(line, 0)),
-            at: 2,
+        let letter = field::byte_at(line, 0);
+        let asked = match letter {
+            b'w' => Asked::Walk,
+            b'I' => Asked::Index,
+            b'F' => Asked::Find,
+            b'X' => Asked::WalkIndexed,
+            b'=' => Asked::Same,
+            _ => Asked::Letter(letter),
         };
+        return Question { asked, at: 2 };
     }
     if starts_with(line, b"channel ") {
         return Question {

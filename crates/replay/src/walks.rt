@@ -11,9 +11,13 @@ use field::numbers::NO_ROOM;
 
 pub(crate) const MOST_PLACES: usize = 3001;
 
-pub(crate) fn say_places(list: &[u16]) {
+// The first n places of a list; all of them where there are fewer.
+pub(crate) fn say_places(list: &[u16], n: usize) {
     let mut i = 0;
-    while i < list.len() {
+    while i < n {
+        if list.len() <= i {
+            return;
+        }
         say_le16(list[i]);
         i += 1;
     }
@@ -24,7 +28,7 @@ fn say_walk(verdict: u8, ask: u16, read: usize, list: &[u16]) {
     say_hex(verdict);
     say_le16(ask);
     say_le16((read % 65536) as u16);
-    say_places(list);
+    say_places(list, list.len());
 }
 
 pub(crate) fn say_verdict(verdict: Verdict, list: &[u16]) {

@@ -10,15 +10,6 @@ use field::byte_at;
 use field::le16_at;
 use field::le32_at;
 
-fn say_name(c: Channel) {
-    match c {
-        Channel::Primary => say(b"Primary "),
-        Channel::Numbered(_) => say(b"Numbered "),
-        Channel::System => say(b"System "),
-        Channel::Current => say(b"Current "),
-    }
-}
-
 pub(crate) fn channel(data: &[u8]) {
     if data.len() != 1 {
         say(b"?");
@@ -26,7 +17,12 @@ pub(crate) fn channel(data: &[u8]) {
     }
     match Channel::new(byte_at(data, 0)) {
         NewChannel::Valid(c) => {
-            say_name(c);
+            match c {
+                Channel::Primary => say(b"Primary "),
+                Channel::Numbered(_) => say(b"Numbered "),
+                Channel::System => say(b"System "),
+                Channel::Current => say(b"Current "),
+            }
             say_hex(c.value());
         }
         NewChannel::Invalid(_) => say(b"none"),

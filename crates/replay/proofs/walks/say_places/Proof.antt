@@ -1,15 +1,14 @@
 -- `replay::walks::say_places` is safe and ends. Assumes nothing.
 use borrow.Author.Needs.{needs}
 use Prim.Native.Nat.{_≤_, _-_}
-use lib.ListN.{length}
 use Rattle.replay.proofs.walks.say_places.Statement.{statement}
 use Rattle.replay.proofs.walks.say_places.Tie as tie
 
 abbrev Inv-loop : tie.InvT-loop
-Inv-loop list i₀ i = i ≤ length list
+Inv-loop list n i₀ i = i ≤ n
 
 abbrev μ-loop : tie.MeasureT-loop
-μ-loop list i₀ i = length list - i
+μ-loop list n i₀ i = n - i
 
 pub say-places-spec : {M : Type 1} → statement M
 say-places-spec =
@@ -17,6 +16,7 @@ say-places-spec =
     (tie.spec
     Inv-loop
     μ-loop
+    (λ c. search needs)
     (λ c. search needs)
     (λ c. search needs)
     (λ c. search needs)

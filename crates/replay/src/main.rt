@@ -15,8 +15,6 @@ use say::up_to;
 // One place more than the longest question has, a letter, a space and 132,400 digits: a line that fills it is none.
 const LINE: usize = 132403;
 
-const BYTES: usize = 66200;
-
 // What a line asks about: a letter's kind, or one of five words; or it is no question.
 enum Asked {
     Letter(u8),
@@ -53,26 +51,26 @@ fn digit(c: u8) -> u8 {
     }
 }
 
-// Puts the bytes that the digits spell at the start of bytes; false where they spell none, or too many.
-fn decode(digits: &[u8], bytes: &mut [u8]) -> bool {
-    if digits.len() % 2 != 0 {
+// Puts the bytes that a line's digits spell at its start, where none of them is read any more; false where they spell none.
+fn decode(line: &mut [u8], filled: usize, at: usize) -> bool {
+    if line.len() <= filled {
         return false;
     }
-    let n = digits.len() / 2;
-    if bytes.len() < n {
+    let digits = from_place(up_to(line, filled), at).len();
+    if digits % 2 != 0 {
         return false;
     }
     let mut i = 0;
-    while i < n {
-        let high = digit(field::byte_at(digits, 2 * i));
-        let low = digit(field::byte_at(digits, 2 * i + 1));
+    while i < digits / 2 {
+        let high = digit(field::byte_at(from_place(line, at), 2 * i));
+        let low = digit(field::byte_at(from_place(line, at), 2 * i + 1));
         if 16 <= high {
             return false;
         }
         if 16 <= low {
             return false;
         }
-        put(bytes, i, 16 * high + low);
+        put(line, i, 16 * high + low);
         i += 1;
     }
     true
@@ -174,40 +172,40 @@ fn answer_to(asked: Asked, data: &[u8]) {
     }
 }
 
-fn answer_line(line: &[u8], bytes: &mut [u8]) {
-    let question = question_in(line);
+fn answer_line(line: &mut [u8], filled: usize) {
+    let question = question_in(up_to(line, filled));
     let asked = question.asked;
-    let digits = from_place(line, question.at);
-    let n = digits.len() / 2;
-    if decode(digits, bytes) {
-        answer_to(asked, up_to(bytes, n));
+    let at = question.at;
+    if decode(line, filled, at) {
+        let n = from_place(up_to(line, filled), at).len() / 2;
+        answer_to(asked, up_to(line, n));
         return;
     }
     say(b"?");
 }
 
 // Takes one byte of the input: a newline has the line before it answered. Hands back how much of a line there is then.
-fn take(c: u8, line: &mut [u8], filled: usize, bytes: &mut [u8]) -> usize {
+fn take(c: u8, line: &mut [u8], filled: usize) -> usize {
     if c != b'\n' {
         return put(line, filled, c);
     }
-    answer_line(up_to(line, filled), bytes);
+    answer_line(line, filled);
     say(b"\n");
     0
 }
 
-fn take_all(chunk: &[u8], line: &mut [u8], filled: usize, bytes: &mut [u8]) -> usize {
+fn take_all(chunk: &[u8], line: &mut [u8], filled: usize) -> usize {
     let mut filled = filled;
     let mut i = 0;
     while i < chunk.len() {
-        filled = take(chunk[i], line, filled, bytes);
+        filled = take(chunk[i], line, filled);
         i += 1;
     }
     filled
 }
 
 // A line that the end of the input cuts off is no question, and neither is one at which reading fails.
-fn read_some(line: &mut [u8], filled: usize, bytes: &mut [u8]) -> Step {
+fn read_some(line: &mut [u8], filled: usize) -> Step {
     let mut chunk = io::large_buffer();
     let got = libc::read(STDIN_FILENO, &mut chunk);
     if got < 0 {
@@ -221,15 +219,15 @@ fn read_some(line: &mut [u8], filled: usize, bytes: &mut [u8]) -> Step {
         return Step::Done;
     }
     let n = io::count(got, &chunk);
-    Step::More(take_all(&chunk[..n], line, filled, bytes))
+    Step::More(take_all(&chunk[..n], line, filled))
 }
 
 // Nothing says that the input ends, so the turns are counted down from a number that no run uses up.
-fn replay(line: &mut [u8], bytes: &mut [u8]) {
+fn replay(line: &mut [u8]) {
     let mut filled = 0;
     let mut turns = u64::MAX;
     while 0 < turns {
-        let Step::More(n) = read_some(line, filled, bytes) else {
+        let Step::More(n) = read_some(line, filled) else {
             return;
         };
         filled = n;
@@ -239,6 +237,5 @@ fn replay(line: &mut [u8], bytes: &mut [u8]) {
 
 fn main() {
     let mut line = [0u8; LINE];
-    let mut bytes = [0u8; BYTES];
-    replay(&mut line, &mut bytes);
+    replay(&mut line);
 }

@@ -7,10 +7,10 @@ use Rattle.replay.proofs.replay.Statement.{statement}
 use Rattle.replay.proofs.replay.Tie as tie
 
 abbrev Inv-loop : tie.InvT-loop
-Inv-loop line₀ bytes₀ filled₀ turns₀ line bytes filled turns = (length line ≡ length line₀) × (length bytes ≡ length bytes₀)
+Inv-loop line₀ filled₀ turns₀ line filled turns = length line ≡ length line₀
 
 abbrev μ-loop : tie.MeasureT-loop
-μ-loop line₀ bytes₀ filled₀ turns₀ line bytes filled turns = turns
+μ-loop line₀ filled₀ turns₀ line filled turns = turns
 
 pub replay-spec : {M : Type 1} → statement M
 replay-spec =
@@ -20,8 +20,6 @@ replay-spec =
     μ-loop
     (λ c. search needs)
     (λ c κs. search needs)
-    (λ c. search needs)
-    (λ c. search needs)
     (λ c. search needs)
     (λ c. search needs)
     (λ c. search needs)

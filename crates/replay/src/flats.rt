@@ -9,19 +9,29 @@ use flat_form::SelAnswer;
 // More than the longest flat form has, an event's text of 70 bytes.
 const ROOM: usize = 80;
 
+// Accepted is the flat bytes in hexadecimal, or a text as it is.
 pub(crate) fn ask(letter: u8, data: &[u8]) {
     let mut out = [0xEEu8; ROOM];
     let answer = answer_to(letter, data, &mut out);
-    if answer.number == 0 {
-        let text = flat::is_text(flat::kind_of(letter));
-        say_taken(up_to(&out, answer.value), text);
-        return;
-    }
     if answer.number == NO_QUESTION {
         say(b"?");
         return;
     }
-    say_refusal(answer.number, answer.value);
+    if answer.number != 0 {
+        say_refusal(answer.number, answer.value);
+        return;
+    }
+    say(b"0");
+    let flat = up_to(&out, answer.value);
+    if flat.len() == 0 {
+        return;
+    }
+    say(b" ");
+    if flat::is_text(flat::kind_of(letter)) {
+        say(flat);
+        return;
+    }
+    say_bytes(flat);
 }
 
 fn answer_to(letter: u8, data: &[u8], out: &mut [u8]) -> SelAnswer {
@@ -31,18 +41,4 @@ fn answer_to(letter: u8, data: &[u8], out: &mut [u8]) -> SelAnswer {
         b'K' => flat_writer::kept::again(data, out),
         _ => flat::flat(letter, data, out),
     }
-}
-
-// The flat bytes in hexadecimal, or a text as it is.
-fn say_taken(flat: &[u8], text: bool) {
-    say(b"0");
-    if flat.len() == 0 {
-        return;
-    }
-    say(b" ");
-    if text {
-        say(flat);
-        return;
-    }
-    say_bytes(flat);
 }

@@ -6,7 +6,6 @@ use mathlib.Core.List.{List}
 use mathlib.Core.Logic.{⊎-elim}
 use native.Mathlib.Omega.{arith}
 use lib.ListN.{length, take}
-use Rattle.field.specs.Handed.{Handed}
 use Rattle.field.proofs.Choices.{clash}
 use Rattle.capture.specs.Length.{slotsAnswer}
 use Rattle.capture.specs.Refusals.{Bad}
@@ -26,7 +25,7 @@ use Rattle.index_make.proofs.Added.{adds-index}
 use Rattle.index_make.proofs.Made.{makes-index, number-is}
 use Rattle.flat_form.specs.declared.SelAnswer.{SelAnswer}
 use Rattle.abi.specs.IndexSays.{IndexSays}
-use Rattle.abi.specs.Indexes.{AddsIndex, MakesIndex, WalksIndexed, checkHands, indexedAnswer}
+use Rattle.abi.specs.Indexes.{WalksIndexed, checkHands, indexedAnswer}
 use Rattle.abi.specs.Walks.{foundAnswer}
 use Rattle.abi.specs.declared.walk.SelWalk.{SelWalk}
 use Rattle.abi.proofs.Indexing.{is-bad, is-right, is-wrong}

@@ -37,12 +37,6 @@ struct Question {
     at: usize,
 }
 
-// Whether to read on, and how much of the next line there is.
-enum Step {
-    More(usize),
-    Done,
-}
-
 fn digit(c: u8) -> u8 {
     match c {
         b'0'..=b'9' => c - b'0',
@@ -204,33 +198,26 @@ fn take_all(chunk: &[u8], line: &mut [u8], filled: usize) -> usize {
     filled
 }
 
-// A line that the end of the input cuts off is no question, and neither is one at which reading fails.
-fn read_some(line: &mut [u8], filled: usize) -> Step {
-    let mut chunk = io::large_buffer();
-    let got = libc::read(STDIN_FILENO, &mut chunk);
-    if got < 0 {
-        say(b"?\n");
-        return Step::Done;
-    }
-    if got == 0 {
-        if 0 < filled {
-            say(b"?\n");
-        }
-        return Step::Done;
-    }
-    let n = io::count(got, &chunk);
-    Step::More(take_all(&chunk[..n], line, filled))
-}
-
-// Nothing says that the input ends, so the turns are counted down from a number that no run uses up.
+// A line that the end of the input cuts off is no question, and neither is one at which reading fails. Nothing says that the input ends, so the turns
+// are counted down from a number that no run uses up.
 fn replay(line: &mut [u8]) {
     let mut filled = 0;
     let mut turns = u64::MAX;
     while 0 < turns {
-        let Step::More(n) = read_some(line, filled) else {
+        let mut chunk = io::large_buffer();
+        let got = libc::read(STDIN_FILENO, &mut chunk);
+        if got < 0 {
+            say(b"?\n");
             return;
-        };
-        filled = n;
+        }
+        if got == 0 {
+            if 0 < filled {
+                say(b"?\n");
+            }
+            return;
+        }
+        let n = io::count(got, &chunk);
+        filled = take_all(&chunk[..n], line, filled);
         turns -= 1;
     }
 }

@@ -17,21 +17,10 @@ pub(crate) fn up_to(s: &[u8], n: usize) -> &[u8] {
     s
 }
 
-pub(crate) fn say_hex(b: u8) {
-    let mut digits = [0u8; 2];
-    text::put_hex2(b, &mut digits, 0);
-    say(&digits);
-}
-
-pub(crate) fn say_hex4(v: u16) {
-    let mut digits = [0u8; 4];
-    text::put_hex4(v, &mut digits, 0);
-    say(&digits);
-}
-
 // A number of the flat form, the low byte first.
 pub(crate) fn say_le16(v: u16) {
-    say_hex4(v % 256 * 256 + v / 256);
+    let pair = [(v % 256) as u8, (v / 256) as u8];
+    say_bytes(&pair);
 }
 
 // More than the longest flat form has that is no text, 24 bytes.
@@ -54,11 +43,13 @@ pub(crate) fn say_refusal(number: u32, value: usize) {
     match number {
         TOO_SHORT | NO_ROOM => {
             say(b" ");
-            say_hex4((value % 65536) as u16);
+            let needed = [(value / 256 % 256) as u8, (value % 256) as u8];
+            say_bytes(&needed);
         }
         UNKNOWN_TYPE | INVALID_CHANNEL => {
             say(b" ");
-            say_hex((value % 256) as u8);
+            let carried = [(value % 256) as u8];
+            say_bytes(&carried);
         }
         _ => {}
     }

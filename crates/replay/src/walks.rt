@@ -1,6 +1,6 @@
 // The kind w: a budget, a number of places lent, and the slots to walk over.
 use crate::say::say;
-use crate::say::say_hex;
+use crate::say::say_bytes;
 use crate::say::say_le16;
 use crate::say::say_refusal;
 use capture::Verdict;
@@ -25,7 +25,8 @@ pub(crate) fn say_places(list: &[u16], n: usize) {
 
 fn say_walk(verdict: u8, ask: u16, read: usize, list: &[u16]) {
     say(b"0 ");
-    say_hex(verdict);
+    let verdict = [verdict];
+    say_bytes(&verdict);
     say_le16(ask);
     say_le16((read % 65536) as u16);
     say_places(list, list.len());

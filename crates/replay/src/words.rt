@@ -1,6 +1,6 @@
 // The words `channel`, `unit` and `ported`, which are no answers and have no letter.
 use crate::say::say;
-use crate::say::say_hex;
+use crate::say::say_bytes;
 use crate::say::say_le16;
 use connection::Channel;
 use connection::LogicalUnit;
@@ -23,7 +23,8 @@ pub(crate) fn channel(data: &[u8]) {
                 Channel::System => say(b"System "),
                 Channel::Current => say(b"Current "),
             }
-            say_hex(c.value());
+            let number = [c.value()];
+            say_bytes(&number);
         }
         NewChannel::Invalid(_) => say(b"none"),
     }
@@ -36,10 +37,14 @@ pub(crate) fn unit(data: &[u8]) {
         return;
     }
     let value = byte_at(data, 0);
-    say_hex(LogicalUnit::from_low_bits(value).value());
+    let low = [LogicalUnit::from_low_bits(value).value()];
+    say_bytes(&low);
     say(b" ");
     match LogicalUnit::new(value) {
-        NewUnit::Valid(u) => say_hex(u.value()),
+        NewUnit::Valid(u) => {
+            let number = [u.value()];
+            say_bytes(&number);
+        }
         NewUnit::Invalid => say(b"none"),
     }
 }

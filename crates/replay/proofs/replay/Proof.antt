@@ -1,16 +1,15 @@
 -- `replay::replay` is safe and ends. Assumes nothing.
 use borrow.Author.Needs.{needs}
-use Prim.Native.Nat.{_-_}
 use lib.ListN.{length}
 use mathlib.Core.Path.{_≡_}
 use Rattle.replay.proofs.replay.Statement.{statement}
 use Rattle.replay.proofs.replay.Tie as tie
 
 abbrev Inv-loop : tie.InvT-loop
-Inv-loop line₀ filled₀ turns₀ line filled turns = length line ≡ length line₀
+Inv-loop line₀ filled₀ turns₀ t7 t8 line filled turns = length line ≡ length line₀
 
 abbrev μ-loop : tie.MeasureT-loop
-μ-loop line₀ filled₀ turns₀ line filled turns = turns
+μ-loop line₀ filled₀ turns₀ t7 t8 line filled turns = turns
 
 pub replay-spec : {M : Type 1} → statement M
 replay-spec =
@@ -21,9 +20,22 @@ replay-spec =
     (λ c. search needs)
     (λ c κs. search needs)
     (λ c. search needs)
+    (λ c κs. search needs)
+    (λ c. search needs)
+    (λ c κs. search needs)
     (λ c. search needs)
     (λ c. search needs)
     (λ c. search needs)
+    (λ c κs. search needs)
+    (λ c. search needs)
+    (λ c. search needs)
+    (λ c. search needs)
+    (λ c. search needs)
+    (λ c. search needs)
+    (λ c κs. search needs)
+    (λ c. search needs)
+    (λ c. search needs)
+    (λ c κs. search needs)
     (λ c. search needs)
     (λ c. search needs)
     (λ c. search needs)

@@ -1,4 +1,4 @@
--- `replay::say::say_refusal` is safe and ends: a number of 32 bits has at most ten digits. Assumes nothing.
+-- `replay::say::say_refusal` is safe: a number has at most ten digits. Assumes nothing.
 use native.Mathlib.Omega.{arith}
 use Rattle.text.proofs.Decimal.{decimal-length}
 use borrow.Author.Needs.{needs}
@@ -20,9 +20,12 @@ say-refusal-spec =
     (λ c. search needs)
     (λ c κs. search needs)
     (λ c. search needs)
+    (λ c. search needs)
+    (λ c. search needs)
     (λ c κs. search needs)
     (λ c. search needs)
     (λ c κs. search needs)
+    (λ c. search needs)
     (λ c. search needs)
     (λ c κs. search needs)
     (λ c. search needs)

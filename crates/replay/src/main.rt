@@ -178,22 +178,20 @@ fn answer_line(line: &mut [u8], filled: usize) {
     say(b"?");
 }
 
-// Takes one byte of the input: a newline has the line before it answered. Hands back how much of a line there is then.
-fn take(c: u8, line: &mut [u8], filled: usize) -> usize {
-    if c != b'\n' {
-        return put(line, filled, c);
-    }
-    answer_line(line, filled);
-    say(b"\n");
-    0
-}
-
+// Takes bytes of the input: a newline has the line before it answered. Hands back how much of a line there is then.
 fn take_all(chunk: &[u8], line: &mut [u8], filled: usize) -> usize {
     let mut filled = filled;
     let mut i = 0;
     while i < chunk.len() {
-        filled = take(chunk[i], line, filled);
+        let c = chunk[i];
         i += 1;
+        if c != b'\n' {
+            filled = put(line, filled, c);
+            continue;
+        }
+        answer_line(line, filled);
+        say(b"\n");
+        filled = 0;
     }
     filled
 }

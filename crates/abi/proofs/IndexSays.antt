@@ -18,7 +18,7 @@ use Rattle.index.specs.Walk.{indexedNumberOf, walkIndexed}
 use Rattle.index.specs.declared.IndexedVerdict.{IndexedVerdict}
 use Rattle.index.proofs.Checked.{checked}
 use Rattle.index.proofs.Indexed.{indexed-walk}
-use Rattle.index.proofs.Lookup.{lookup}
+use Rattle.index.proofs.Lookup.{finds}
 use Rattle.index_make.specs.Add.{addedHands}
 use Rattle.index_make.specs.Make.{madeHands}
 use Rattle.index_make.proofs.Added.{adds-index}
@@ -101,7 +101,7 @@ module _ (s : List ℕ) where
     five = five;
     ten = ten;
     zero = zero;
-    finds = λ x z id. ap foundAnswer (lookup s x id .accepted (checked s x .exactly .1 (zero x .0 z .1)));
+    finds = λ x z id. ap foundAnswer (finds s x id refl .accepted (checked s x .exactly .1 (zero x .0 z .1)));
     walks = λ x z b old left r w.
         let i = indexed-walk s x b old in
         let q = zero x .0 z .1 in

@@ -5,7 +5,7 @@ use Rattle.capture.specs.Walk.{walkOf}
 use Rattle.capture.proofs.Tested.{walked}
 use Rattle.index.proofs.Checked.{checked}
 use Rattle.index.proofs.Indexed.{indexed-walk}
-use Rattle.index.proofs.Lookup.{lookup}
+use Rattle.index.proofs.Lookup.{finds}
 use Rattle.index.proofs.OneIndex.{one-index}
 use Rattle.index_make.proofs.Added.{adds-index}
 use Rattle.index_make.proofs.Made.{makes-index}
@@ -18,7 +18,7 @@ find-fast =
       index = one-index;
       check = checked;
       checks = λ s x r c. c .exactly;
-      lookup = lookup;
+      lookup = λ s x id. finds s x id refl;
       walk = indexed-walk;
       walked = λ s x b old left r q w.
           let i = indexed-walk s x b old in

@@ -21,5 +21,13 @@ pub const WRONG_INDEX: u32 = 10;
 
 pub const UNNAMED_VERSION: u32 = 11;
 
+pub const NO_BYTES: u32 = 13;
+
+pub const UNRESERVED: u32 = 14;
+
+pub const NEXT_DIFFERS: u32 = 15;
+
+pub const NO_SUCH_PART: u32 = 16;
+
 // No number of the table: the bytes are no question of the kind that was asked.
 pub const NO_QUESTION: u32 = 255;

@@ -793,8 +793,13 @@ def partial_requests():
     yield from damaged("Q", bytes.fromhex("06341278560F01"))
 
 
+def framed(m, answers):
+    """How answers are asked to be joined."""
+    return bytes([m]) + b"".join(bytes([len(answer)]) + answer for answer in answers)
+
+
 def join(m, answers):
-    return question("J", bytes([m]) + b"".join(bytes([len(answer)]) + answer for answer in answers))
+    return question("J", framed(m, answers))
 
 
 UNLIKE = bytes(range(0xB0, 0xC0))  # sixteen bytes that all differ

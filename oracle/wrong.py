@@ -104,14 +104,12 @@ def evenly(m):
     return [(start, end - start) for start, end in zip(ends, ends[1:])]
 
 
-def of_counts(counts):
-    """The reads with these counts, one behind the other."""
-    return [*zip(itertools.accumulate([0, *counts]), counts)]
-
-
 def counted(change):
-    """Reads whose counts are changed, by m too."""
-    return lambda m: of_counts(change([count for _, count in reads(m)], m))
+    """Reads one behind the other, of other counts."""
+    def read(m):
+        counts = change([count for _, count in reads(m)], m)
+        return [*zip(itertools.accumulate([0, *counts]), counts)]
+    return read
 
 
 # What lists other reads, or counts other bytes for the answers.

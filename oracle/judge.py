@@ -1,8 +1,9 @@
 """What the port has to answer: the Rust's answer, and the model's where it has one. Where both have one, the model's mapped back by model.ported, and by nothing
 else, must be the Rust's. The Rust has no versions, and its rule is that of 2.0: of a question with a version it is asked what follows, and under 1.5 its answer
 is narrowed first, as channels 8h to Bh are reserved there. Nor has it a writer: of an entry to write, with the bytes that it keeps or without, it is asked what it
-reads from the model's sixteen bytes, and of a record to write again what it reads from that. Nor an index: there the model judges alone, and wrong.py has what its
-questions tell from it."""
+reads from the model's sixteen bytes, and of a record to write again what it reads from that. A request for a part of a record it never refuses, and where the
+model accepts one, both must say the same six bytes. Nor has it an index, nor reads of a few bytes and the joining of their answers: there the model judges
+alone, and wrong.py has what its questions tell from it."""
 
 import sys
 
@@ -10,7 +11,7 @@ sys.dont_write_bytecode = True  # no __pycache__ beside the sources
 import model
 from rust import stop
 
-BOTH = ("=", *model.NEEDED)  # the kinds of questions to the Rust that both answer
+BOTH = ("=", "Q", *model.NEEDED)  # the kinds of questions to the Rust that both answer
 PANIC = "panic"
 
 # What is to be written, by its letter: from the bytes of the question the record that the Rust is asked about.
@@ -68,6 +69,9 @@ def due(question, rust):
     elif question[0] == "K":
         # the second way to say that the bytes stay: they are those of the entry that the Rust reads
         agree = is_written_again(question, due(asked, rust))
+    elif question[0] == "Q":
+        # the Rust has no such refusals; what is accepted, and what is no question, both say
+        agree = answer == rust or answer in ("14", "16", "4 0006")
     else:
         # a bare 1 is the Rust's alone: the model says what was short, and with a version it says every refusal
         untold = answer == "1" or modelled is None and asked != question and rust[:2] != "0 "

@@ -1,12 +1,13 @@
 """The questions of the program `replay`, in the order of crates/replay/stdin.
 
-Their answers, crates/replay/stdout, come from four places: from model.py for lines that begin with p, w, I, F, X, s, D, V, L, M, K, N or `ported`, which the
-Rust does not have, for what is refused by its length or by a reservation of 0, which it tells less of, and for what E and G refuse, as it knows no versions (judge.py:
-mapped back it must be the Rust's, which is asked e and g of what follows the version, and answers so what E and G accept; of lines
-that begin with e or = the two must say the same, and so must s and t of the times, and D and d, V and v of the event types, that the rules leave alone; what M
-and N write both must read as the entry that was asked for, and what K writes must be the entry that the Rust reads); from dump.py for
-the words `entry` and `answer`, whose accepted answers are lines of `seldump`, out of the Rust's own answers; from panics.txt where the Rust panics, which the model
-must say too; from the Rust for every other line. That a line is no question, `?`, is said by the program that asks the Rust (src/main.rs), or by model.py.
+Their answers, crates/replay/stdout, come from four places: from model.py for lines that begin with p, w, I, F, X, s, D, V, L, M, K, N, R, J or `ported`, which
+the Rust does not have, for what Q refuses, where it refuses nothing, for what is refused by its length or by a reservation of 0, which it tells less of, and
+for what E and G refuse, as it knows no versions (judge.py: mapped back it must be the Rust's, which is asked e and g of what follows the version, and answers
+so what E and G accept; of lines that begin with e or = the two must say the same, and so must s and t of the times, and D and d, V and v of the event types,
+that the rules leave alone; what M and N write both must read as the entry that was asked for, and what K writes must be the entry that the Rust reads; of what
+Q accepts both must say the same six bytes); from dump.py for the words `entry` and `answer`, whose accepted answers are lines of `seldump`, out of the Rust's
+own answers; from panics.txt where the Rust panics, which the model must say too; from the Rust for every other line. That a line is no question, `?`, is said
+by the program that asks the Rust (src/main.rs), or by model.py.
 """
 
 import hashlib
@@ -768,6 +769,128 @@ def most_slots():
     yield indexed_walk(3002, 3001, [*range(3001)], slots(line_of(*range(3001), LAST)))
 
 
+def reads():
+    """Every m; more bytes than one."""
+    yield from (question("R", [m]) for m in range(256))
+    yield from (question("R", [m, more]) for m in (0, 1, 16) for more in (0, 1, 16))
+
+
+def partial(room, reservation, id, offset, count):
+    return question("Q", bytes([room]) + word(reservation) + word(id) + bytes([offset, count]))
+
+
+def partial_requests():
+    """Offsets and counts around the border, and those whose sum a byte would cut; every offset, every count. Reservations, ids and rooms, of what is good and
+    of what is refused, as 14 comes before 16, and 4 last. Damages, so also other numbers of bytes."""
+    far = (0x00, 0x01, 0x0F, 0x10, 0x20, 0x7F, 0x80, 0xF0, 0xF1, 0xFE, 0xFF)
+    near = (*itertools.product(range(19), repeat=2), *itertools.product(far, repeat=2))
+    yield from (partial(6, 0x1234, 0x5678, *read) for read in (*near, *((offset, 1) for offset in range(256)), *((0, count) for count in range(256))))
+    some = ((0, 16), (5, 6), (16, 1), (3, 0), (0, 0xFF))
+    yield from (partial(room, reservation, 0x5678, *read) for room in (5, 6) for reservation in WORDS for read in some)
+    yield from (partial(6, reservation, id, *read) for reservation in (0, 1, 0x8000) for id in WORDS for read in some[1:3])
+    rooms = (*range(9), 15, 16, 0x7F, 0x80, 0xFF)
+    yield from (partial(room, reservation, 0x5678, *read) for room in rooms for reservation in (0, 0x1234) for read in some[::2])
+    yield from damaged("Q", bytes.fromhex("06341278560F01"))
+
+
+def framed(m, answers):
+    """How answers are asked to be joined."""
+    return bytes([m]) + b"".join(bytes([len(answer)]) + answer for answer in answers)
+
+
+def join(m, answers):
+    return question("J", framed(m, answers))
+
+
+UNLIKE = bytes(range(0xB0, 0xC0))  # sixteen bytes that all differ
+
+
+def parts(m, next_id=0x1234, record=UNLIKE):
+    """The right answers, one for each read."""
+    return [word(next_id) + record[offset:offset + count] for offset, count in model.reads(m)]
+
+
+def not_taken(part):
+    """What is refused in place of a right answer: without a byte, cut, without its id, longer; with another id, by its low byte or its high one, and then cut
+    or longer too."""
+    low, high = flipped(part, [0]), flipped(part, [15])
+    return [*dict.fromkeys((b"", part[:1], part[:2], part[:-1], part[2:], part + b"\x5A", part.ljust(255, b"\x5A"), low, high, low[:-1], high + b"\x5A"))]
+
+
+SHORTER_LAST = (3, 5, 6, 7, *range(9, 16))  # of these the last read has fewer bytes than the others
+OVER = (17, 18, 127, 128, 253, 254, 255)    # more than a record has
+
+
+def right_joinings():
+    """Every m with its right answers; any number of them, and the other way round; records of every kind, also such as no parser takes."""
+    yield from (join(m, parts(m)) for m in range(1, 256))
+    for m in range(1, 17):
+        yield from (join(m, parts(m)[:count]) for count in range(len(parts(m))))
+        yield from (join(m, parts(m)[::-1]), join(m, parts(m)[1:] + parts(m)[:1]))
+    yield from (join(m, []) for m in OVER)
+    records = (RECORD, OEM_TIMED, OEM_PLAIN, bytes(16), b"\xFF" * 16, changed(RECORD, 2, 0x03), changed(RECORD, 8, 0xC0))
+    yield from (join(m, parts(m, 0x0002, record)) for m in (1, 5, 16) for record in records)
+
+
+def refused_answers():
+    """Before each read what is refused there, and the right answers; all of it in one question. Where less than m bytes are left, an answer of m."""
+    for m in (*range(1, 17), *OVER):
+        right = parts(m)
+        wrong = [not_taken(part) for part in right]
+        yield from (join(m, right[:place] + [answer] + right[place:]) for place, answers in enumerate(wrong) for answer in answers)
+        yield join(m, itertools.chain(*([*answers, part] for answers, part in zip(wrong, right)), not_taken(right[-1])))
+    for m in (*SHORTER_LAST, *OVER):
+        *before, last = parts(m)
+        yield join(m, [*before, last.ljust(min(2 + m, 255), b"\x5A"), last])
+
+
+def after_the_last():
+    """16, whatever the answer is: no byte, cut, right, of another next id, longer; the whole again."""
+    for m in (1, 2, 3, 5, 8, 9, 15, 16, 17, 255):
+        first, last = parts(m)[0], parts(m)[-1]
+        more = (b"", *not_taken(last)[1:4], first, last, flipped(first, [0]), last + b"\x5A", bytes(18), bytes(255))
+        yield from (join(m, parts(m) + [answer]) for answer in more)
+    yield from (join(m, parts(m) + parts(m, 0x4321)) for m in range(1, 17))
+
+
+def next_ids():
+    """Each with each, and each bit: the first that was taken decides."""
+    for one, other in itertools.product((*WORDS, 0xFF00), repeat=2):
+        first, last = parts(8, one)
+        yield join(8, [first, word(other) + last[2:], last])
+    for id, bit in itertools.product((0x0000, LAST), range(16)):
+        right = parts(6, id)
+        yield join(6, [*right[:2], flipped(right[2], [bit]), right[2]])
+    # an id that was refused first, by its length, and comes again
+    for cut in (parts(8, 0x4321)[0][:-1], parts(8, 0x4321)[0] + b"\x5A"):
+        yield from (join(8, [cut, *parts(8, id), cut]) for id in (0x1234, 0x4321))
+
+
+def many_answers():
+    """More answers than a byte counts, refused before each read or after the last."""
+    for m, count in itertools.product((1, 9, 16), (15, 16, 17, 255, 256, 257)):
+        first, *rest = parts(m)
+        yield from (join(m, [b""] * count + [first, *rest]), join(m, [first] + [b"\x5A"] * count + rest), join(m, [first, *rest] + [first] * count))
+
+
+def cut_answers():
+    """What stops inside an answer, and the same behind an m of 0; lengths at their edges. Of an m of 0 whatever follows."""
+    for whole in (join(5, parts(5)), join(16, parts(16)), join(16, [b"", b"", *parts(16)]), join(0, parts(5))):
+        yield from (whole[:2 + 2 * length] for length in range(len(whole) // 2))
+    for m, length in itertools.product((0, 1, 16, 255), (1, 0x7F, 0x80, 0xFF)):
+        yield from (question("J", bytes([m, length]) + bytes(count)) for count in (length - 1, length, length + 1))
+    yield from (question("J", b"\x00" + mixed(length)) for length in range(20))
+
+
+def any_joining(number):
+    """By number: the right answers, before some of which stand others that are refused there."""
+    m, *dice = any_bytes(number, 17)
+    m, answers = 1 + m % 17, []
+    for part, byte in zip(parts(m, 0x0101 * number, any_bytes(number + 1, 16)), dice):
+        answers += not_taken(part)[byte % 11:][:byte // 64] + [part]
+    return join(m, answers)
+
+
 PARSERS = {"e": "entry", "g": "answer"}
 
 
@@ -779,20 +902,22 @@ def parsed(asked):
             yield name + line[1:]
 
 
-LETTERS = "eygpiarcdvDVLEGMKNxtsnqwIFX="
+LETTERS = "eygpiarcdvDVLEGMKNxtsnqwIFXRQJ="
 WORDED = ("channel", "unit", "ported")
-FIXED = {"d": 3, "v": 3, "D": 4, "V": 4, "L": 5, "x": 3, "t": 4, "s": 4, "n": 2, "channel": 1, "unit": 1, "ported": 6, "=": 32, "N": 29}
+FIXED = {"d": 3, "v": 3, "D": 4, "V": 4, "L": 5, "x": 3, "t": 4, "s": 4, "n": 2, "channel": 1, "unit": 1, "ported": 6, "=": 32, "N": 29, "R": 1, "Q": 7}
 
 
 def malformed():
     """What answers `?`, as far as it stands in one line."""
     whole = {"M": joined(SYSTEM), "K": word(16) + RECORD, "N": joined(parsed_from(RECORD)),
-             "I": with_ids(0), "F": word(0) + with_index([0], with_ids(0)), "X": bytes(6) + with_index([0], with_ids(0))}
+             "I": with_ids(0), "F": word(0) + with_index([0], with_ids(0)), "X": bytes(6) + with_index([0], with_ids(0)),
+             "Q": bytes.fromhex("06341278560F01"), "J": b"\x01\x03" + parts(1)[0]}
     yield ""
     yield from (chr(c) for c in (0x00, 0x09, 0x0D, 0x20, 0x7F, 0xE9))
     for kind in (*LETTERS, *WORDED, *PARSERS.values()):
         lines = (kind, kind + "00", kind.upper() + " 00", kind + kind + " 00", f" {kind} 00", f"{kind}  00", f"{kind}\t00", f"{kind}:00")
-        yield from (line for line in lines if line not in ("E 00", "G 00", "I 00"))  # these are questions: two have a version, one has a bad capture
+        # these are questions: two have a version, one has a bad capture, two an m of 0
+        yield from (line for line in lines if line not in ("E 00", "G 00", "I 00", "R 00", "J 00"))
         good = question(kind, whole.get(kind, bytes([0xAB]) * FIXED.get(kind, 18)))
         yield from (good + "0", good.lower(), good + " ", good + "\r", good + "\0", good + " 00", good[:-1] + "G", good[:-1] + "/", good[:-1] + ":",
                     good[:-1] + "@", good[:-1] + "`", good[:-1] + "\xE9", good.replace(" ", " 0x"))
@@ -810,6 +935,8 @@ def longest():
     yield question("a", mixed(66_201))
     yield again(RECORD + mixed(66_200 - 18))
     yield again(RECORD + mixed(66_201 - 18))
+    for m, length in itertools.product((0, 16), (66_200, 66_201)):
+        yield join(m, parts(16) + [b""] * (length - 20))
 
 
 LETTERED = [
@@ -820,6 +947,8 @@ LETTERED = [
     *record_ids(), *requests(), *small_walks(), *walk_edges(), *long_walks(),
     *dict.fromkeys((*indexes(), *lookups(), *vain_lookups(), *indexed_walks(), *checked_indexes(), *refusals_in_order(), *cut_questions(),
                     *middling(), *most_slots())),
+    *dict.fromkeys((*reads(), *partial_requests(), *right_joinings(), *refused_answers(), *after_the_last(), *next_ids(), *many_answers(), *cut_answers(),
+                    *map(any_joining, range(100)))),
     *malformed(), *longest(),
 ]
 

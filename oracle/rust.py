@@ -19,7 +19,7 @@ COMMANDS = [
     RUSTC + ["--crate-type=lib", "nonmax.rs"],
     RUSTC + ["--crate-type=lib", "--crate-name=ipmi_rs_core", "--cap-lints=allow",
              "--extern=nonmax", "src/lib.rs"],
-    RUSTC + ["--extern=ipmi_rs_core", "-oask", "program/main.rs"],
+    RUSTC + ["--extern=ipmi_rs_core", "--extern=nonmax", "-oask", "program/main.rs"],
 ]
 
 

@@ -3,6 +3,7 @@
 use std::fmt;
 use std::num::NonZeroU16;
 
+use ipmi_rs_core::app::get_entry::GetEntry;
 use ipmi_rs_core::connection::{Channel, IpmiCommand, LogicalUnit, Message};
 use ipmi_rs_core::storage::sdr::{decode_event, EventData, EventData2Type, EventData3Type, SensorType};
 use ipmi_rs_core::storage::sel::{
@@ -10,6 +11,7 @@ use ipmi_rs_core::storage::sel::{
     ParseEntryError, RecordId, ReserveSel, SelCommand, SelGetAllocInfo,
 };
 use ipmi_rs_core::storage::Timestamp;
+use nonmax::NonMaxU8;
 
 const NOT_ENOUGH_DATA: &str = "1";
 
@@ -282,6 +284,15 @@ pub fn request(question: &[u8]) -> Option<String> {
         _ => return None,
     };
     Some(accepted(&hex(message.data())))
+}
+
+/// The original has no room to lend, and refuses nothing: FFh is no number of
+/// bytes there, and asks for all.
+pub fn partial_request([_room, low, high, id_low, id_high, offset, count]: [u8; 7]) -> String {
+    let reservation = NonZeroU16::new(u16::from_le_bytes([low, high]));
+    let id = any_id(u16::from_le_bytes([id_low, id_high]));
+    let message: Message = GetEntry::new(reservation, id).partial(offset, NonMaxU8::new(count)).into();
+    accepted(&hex(message.data()))
 }
 
 pub fn channel([value]: [u8; 1]) -> String {

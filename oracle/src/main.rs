@@ -1,6 +1,7 @@
 //! Answers questions about ipmi-rs-core: one a line on standard input, one
 //! line of answer each, in the flat form. It only asks the original's public
-//! functions and writes down what they say.
+//! functions, and sets two fields that none of them sets (app.rs of the
+//! stand-ins), and writes down what they say.
 
 mod kinds;
 
@@ -32,6 +33,7 @@ fn answer(question: &str) -> Option<String> {
         "t" => kinds::time_text(bytes.try_into().ok()?),
         "n" => kinds::record_id(bytes.try_into().ok()?),
         "q" => kinds::request(&bytes)?,
+        "Q" => kinds::partial_request(bytes.try_into().ok()?),
         "channel" => kinds::channel(bytes.try_into().ok()?),
         "unit" => kinds::unit(bytes.try_into().ok()?),
         _ => return None,

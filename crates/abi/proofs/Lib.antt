@@ -3,4 +3,5 @@ pub mod IndexSays
 pub mod Indexing
 pub mod Laws
 pub mod LengthSays
+pub mod Parting
 pub mod Walking

@@ -3,6 +3,7 @@ pub mod FromStore
 pub mod IndexSays
 pub mod Indexes
 pub mod LengthSays
+pub mod Parts
 pub mod Questions
 pub mod Sames
 pub mod Typed

@@ -1,6 +1,7 @@
 // The library for programs in other languages: numbers and lent slices in, numbers out. No function asks anything of its caller.
 mod connections;
 mod indexes;
+mod parts;
 mod same;
 mod texts;
 mod typed;
@@ -15,6 +16,10 @@ pub use indexes::sel_index_add;
 pub use indexes::sel_index_check;
 pub use indexes::sel_index_make;
 pub use indexes::sel_walk_indexed;
+pub use parts::SelJoined;
+pub use parts::sel_join;
+pub use parts::sel_reads;
+pub use parts::sel_request_part;
 pub use same::SelSame;
 pub use same::sel_same_entry;
 pub use texts::sel_data_text;

@@ -4,4 +4,5 @@ pub mod Indexing
 pub mod Laws
 pub mod LengthSays
 pub mod Parting
+pub mod PartsSay
 pub mod Walking

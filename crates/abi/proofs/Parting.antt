@@ -38,7 +38,7 @@ lists {m} {out} p e q =
       leaves = p .leaves ∙ sym (float (λ (f : Flat). flatLeaves f out) (eqb m 0) _ _);
     }
 
-may-float : {A B : Type 0} (f : A → B) (g : GetEntryPart) (none bad good : A) → f (mayAsk g none bad good) ≡ mayAsk g (f none) (f bad) (f good)
+pub may-float : {A B : Type 0} (f : A → B) (g : GetEntryPart) (none bad good : A) → f (mayAsk g none bad good) ≡ mayAsk g (f none) (f bad) (f good)
 may-float {A} {B} f g none bad good =
     float f (eqb (g .«reservation_id» .0) 0) _ _
     ∙ ap (λ (rest : B). if eqb (g .«reservation_id» .0) 0 then f none else rest) (float f (noPart (g .offset) (g .«bytes_to_read»)) bad good)

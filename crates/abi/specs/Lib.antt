@@ -4,6 +4,7 @@ pub mod IndexSays
 pub mod Indexes
 pub mod LengthSays
 pub mod Parts
+pub mod PartsSay
 pub mod Questions
 pub mod Sames
 pub mod Typed

@@ -25,6 +25,7 @@ use Rattle.claims.proofs.Demand1.{demand-1}
 use Rattle.claims.proofs.Demand3.{demand-3}
 use Rattle.claims.proofs.Equality.{equality}
 use Rattle.claims.proofs.Fields.{decoded}
+use Rattle.claims.proofs.FewBytes.{few-bytes}
 use Rattle.claims.proofs.FindFast.{find-fast}
 use Rattle.claims.proofs.Header.{header}
 use Rattle.claims.proofs.KeptBits.{kept-bits}
@@ -68,4 +69,5 @@ claims =
       writer = record { roundTrips = round-trips; turnedAway = turned-away; flatTrips = flat-trips; flatAnswers = flat-answers };
       keptBits = kept-bits;
       findFast = find-fast;
+      fewBytes = few-bytes;
     }

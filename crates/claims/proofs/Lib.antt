@@ -4,6 +4,7 @@ pub mod Claims
 pub mod Demand1
 pub mod Demand3
 mod Equality
+pub mod FewBytes
 pub mod Fields
 pub mod FindFast
 pub mod Header

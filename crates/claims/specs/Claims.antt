@@ -1,7 +1,7 @@
 -- What is claimed of the port, whole: the three demands, the cases that its rules mark as proved, what the header of the library for C says,
 -- and what was asked for since: what two equal entries may differ in, texts that share their bytes, times before the
 -- clock was set, event data by event type, what was short, channels of IPMI 1.5, a writer of records, that the bits which
--- fields do not hold are kept, and an index by which one slot is found fast. Assumes nothing.
+-- fields do not hold are kept, an index by which one slot is found fast, and records read by parts. Assumes nothing.
 use Prim.Native.Nat.{ℕ}
 use mathlib.Core.List.{List}
 use Rattle.field.specs.Handed.{Handed}
@@ -20,6 +20,7 @@ use Rattle.claims.specs.Demand1.{Demand1}
 use Rattle.claims.specs.Demand2.{Demand2}
 use Rattle.claims.specs.Demand3.{Demand3}
 use Rattle.claims.specs.Equality.{Equality}
+use Rattle.claims.specs.FewBytes.{FewBytes}
 use Rattle.claims.specs.FindFast.{FindFast}
 use Rattle.claims.specs.Header.{Header}
 use Rattle.claims.specs.KeptBits.{KeptBits}
@@ -53,3 +54,5 @@ pub record Claims : Type 0 where
   pub keptBits : KeptBits
   -- an index of the slots, and the lookup and the walk with it
   pub findFast : FindFast
+  -- a record read by parts, from a controller that answers a few bytes at once
+  pub fewBytes : FewBytes

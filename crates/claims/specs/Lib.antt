@@ -5,6 +5,7 @@ pub mod Demand1
 pub mod Demand2
 pub mod Demand3
 pub mod Equality
+pub mod FewBytes
 pub mod Fields
 pub mod FindFast
 pub mod Header

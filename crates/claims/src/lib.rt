@@ -3,4 +3,5 @@
 pub mod captures;
 pub mod library;
 pub mod parsers;
+pub mod parts;
 pub mod writers;

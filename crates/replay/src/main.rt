@@ -3,6 +3,7 @@
 mod flats;
 mod indexes;
 mod parsers;
+mod parts;
 mod sames;
 mod say;
 mod walks;
@@ -22,6 +23,9 @@ enum Asked {
     Index,
     Find,
     WalkIndexed,
+    Reads,
+    Part,
+    Join,
     Same,
     Channel,
     Unit,
@@ -108,6 +112,9 @@ fn question_in(line: &[u8]) -> Question {
             b'I' => Asked::Index,
             b'F' => Asked::Find,
             b'X' => Asked::WalkIndexed,
+            b'R' => Asked::Reads,
+            b'Q' => Asked::Part,
+            b'J' => Asked::Join,
             b'=' => Asked::Same,
             _ => Asked::Letter(letter),
         };
@@ -156,6 +163,9 @@ fn answer_to(asked: Asked, data: &[u8]) {
         Asked::Index => indexes::index(data),
         Asked::Find => indexes::find(data),
         Asked::WalkIndexed => indexes::walk(data),
+        Asked::Reads => parts::reads(data),
+        Asked::Part => parts::request(data),
+        Asked::Join => parts::join(data),
         Asked::Same => sames::same(data),
         Asked::Channel => words::channel(data),
         Asked::Unit => words::unit(data),

@@ -73,7 +73,7 @@ def bytes_that_are_given():
 
 @test
 def a_size_is_found():
-    """By at most five asks, for each size and each code that a whole read may be refused with; then the record costs what its reads do."""
+    """By five asks at most, for each size and each code that a whole read may be refused with; then a record costs what its reads do."""
     script, text = chain(1, 2)
 
     def found(case):
@@ -83,7 +83,7 @@ def a_size_is_found():
             asks = len(room.parts()) - 2 * len([*reads(most)])
             same((case, status, stands, room.asked(), room.ids().count("reserve")), (case, 0, text, [0], 1))
             same((case, room.parts()[asks:]), (case, parts_of([0, 2], most)))
-            expect(asks <= 5 and all(part[:2] == (0, 0) for part in room.parts()[:asks]), case, room.parts())
+            same((case, asks, {part[:2] for part in room.parts()[:asks]}), (case, 1 if most == 16 else 5, {(0, 0)}))
             told = f"capture: the controller answers at most {most} byte{'s' * (most > 1)} of a record at once; {costs(most)}\n"
             expect(said.count(told) == 1 and "read by parts" not in said, said)
             same((case, room.notes.read_text()), (case, notes(last=(5, 1000, 2000, 2), most=most)))
@@ -139,7 +139,7 @@ def another_refusal_is_no_question_of_size():
             tells(said, f"0000h was refused with completion code {code.upper()}h: Unable", "nothing was read")
     with Room(script, limits=at_most(4, also="[ $count != 4 ] || refuse d4")) as room:
         status, said, stands = outcome(room)
-        same((status, stands, len(room.parts())), (1, None, 2))
+        same((status, stands, len(room.parts())), (1, None, 3))
         tells(said, "0000h was refused with completion code CAh: ", "; a part of 0000h (offset 0, count 4) was refused with completion code D4h: ")
 
 
@@ -229,10 +229,10 @@ def a_reservation_that_is_lost_in_the_search():
     def lost(at):
         with Room(script, limits=at_most(4, also=f"[ $parts != {at} ] || {{ {LOSE}; refuse c5; }}")) as room:
             status, said, stands = outcome(room)
-            sizes = [8, 4, 6, 5]
+            sizes = [16, 8, 4, 6, 5]
             same((at, status, stands, room.ids().count("reserve")), (at, 0, text, 2))
             same((at, room.parts()), (at, [*((0, 0, size) for size in [*sizes[:at], *sizes[at - 1:]]), *parts_of([0, 2], 4)]))
-    at_once(lost, range(1, 5))
+    at_once(lost, range(1, 6))
     with Room(script, limits=at_most(4, also=LOSE)) as room:
         status, said, stands = outcome(room)
         same((status, stands, room.ids().count("reserve")), (1, None, 5))

@@ -456,6 +456,18 @@ def wrong_calls():
 
 
 @test
+def wrong_calls_of_the_controller():
+    capture = str(CAPTURE.parent.parent / "examples/made.txt")
+    sizes = [["--bytes", size, capture, "true"] for size in ("", "0", "04", "256", "x")]
+    for words in ([], [capture], *sizes, ["--bytes", "4", "--bytes", "4", capture, "true"], ["--short", "1", capture, "true"], ["--bytes", "4"],
+                  ["--short", "0000=3", "--bytes", "4", capture]):
+        run = subprocess.run([CAPTURE.with_name("controller"), *words], stdout=subprocess.PIPE, stderr=subprocess.PIPE, timeout=SECONDS)
+        same((words, run.returncode, run.stderr[:29]), (words, 2, b"controller: usage: controller"))
+    for words in (["--bytes", "1"], ["--bytes", "255", "--short", "0000=3"], ["--short", "0000=3", "--bytes", "16"], []):
+        same((words, subprocess.run([CAPTURE.with_name("controller"), *words, capture, "false"], timeout=SECONDS).returncode), (words, 1))
+
+
+@test
 def help():
     for words in ([], ["live"], ["from-raw"], ["from-hex"], ["to-raw"]):
         for asks in ("-h", "--help"):

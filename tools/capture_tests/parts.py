@@ -289,6 +289,17 @@ def parts_of_another_length():
 
 
 @test
+def a_controller_that_breaks_answers_off():
+    """A short answer to a whole read is told as before, and is no reason to search; with the bytes that came, all is read."""
+    script, text = chain(1, 2, 3)
+    with Room(script, limits=at_most(255, also="[ $count -le 8 ] || count=8")) as room:
+        status, said, stands = outcome(room)
+        same((status, stands, room.ids()), (1, None, ["info", "0000"]))
+        tells(said, "the answer for 0000h is short: 10 bytes of 18; nothing was read")
+        same(outcome(room, "--bytes", "8")[::2], (0, text))
+
+
+@test
 def a_part_that_is_too_long_in_the_search():
     script, text = chain(1, 2)
     with Room(script, limits=at_most(8, also="[ $count != 8 ] || { most=9; count=9; }")) as room:

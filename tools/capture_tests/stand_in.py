@@ -53,11 +53,11 @@ answer() {
     [ -z "$reserved" ] || [ "$reserved" = "$(cat reserved)" ] || refuse c5
     file=$times
     while [ ! -f "$id.$file" ]; do file=$((file - 1)); [ $file -gt 0 ] || exit 3; done
-    if [ -z "$reserved" ]; then
-        . "./$id.$file"
-    else
+    if [ -f limits ] && [ "$count" ] || [ "$reserved" ]; then
         whole=$(. "./$id.$file") || exit 1
         part $whole
+    else
+        . "./$id.$file"
     fi
 }
 while [ "$1" != raw ] && [ "$1" != exec ]; do shift; done

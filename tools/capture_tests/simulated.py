@@ -747,11 +747,12 @@ def a_short_answer_with_ipmitool():
 @test
 def a_few_bytes_with_ipmitool():
     """ipmitool lists nothing, writes an empty file, and ends with status 0."""
-    for most in (1, 4, 15, 16):
-        status, said, verdict = captured("made.txt", options=["--bytes", str(most)])
-        same((most, status, verdict), (most, 0, "walk=ended read=6"))
-        expect(f"the controller answers at most {most} byte" in said, said)
     with tempfile.TemporaryDirectory() as folder:
+        for most in (1, 4, 15, 16):
+            file = pathlib.Path(folder, f"capture{most}.txt")
+            said = beside("made.txt", CAPTURE, "live", file, "-I", "dummy", options=["--bytes", str(most)])
+            same((most, said.returncode, file.read_text()), (most, 0, (ROOT / "examples/made.txt").read_text()))
+            expect(f"the controller answers at most {most} byte" in said.stderr, said.stderr)
         file = pathlib.Path(folder, "raw")
         for words in (["list"], ["writeraw", file]):
             said = beside("made.txt", "ipmitool", "-I", "dummy", "sel", *words, options=["--bytes", "4"])

@@ -18,9 +18,9 @@ NO_SUCH_RECORD = ("echo 'Unable to send RAW command (channel=0x0 netfn=0xa lun=0
 RESERVE = "printf 0x%02x0x00 $times >reserved; printf ' %02x 00\\n' $times"  # another one each time
 
 # Stands in for ipmitool. Answers as the file says that has the asked id for its name, or `info` or `reserve`, and .1 for the first time that it is asked,
-# .2 for the second. $mode is `raw` for one ask, and `exec` for a session. $$ is the script itself. A part of a record is a part of the answer for it; the
-# file `limits` says how many bytes are answered at $most, and with which $code more are refused. It may change what is asked: $id, $offset, $count; $times
-# is how often it was asked for, and $parts how many parts were asked for in all.
+# .2 for the second. $mode is `raw` for one ask, and `exec` for a session. $$ is the script itself. A part of a record is cut out of the answer for it. The
+# file `limits`, where it is there, says by $most how many bytes of a record are answered at once, and by $code how more are refused. It can go by what is
+# asked for, and change it: $id, $offset, $count, $times, which is how often that was asked for, and $parts, how many parts were asked for in all.
 STAND_IN = """#!/bin/sh
 cd "${0%/*}"
 { printf '%s\\n' "$@"; echo; } >>calls

@@ -1,7 +1,10 @@
 """What the tests of tools/capture share."""
 
+import contextlib
 import os
 import pathlib
+import platform
+import shutil
 import subprocess
 import sys
 
@@ -54,6 +57,26 @@ def printed_for(capture):
     run = subprocess.run([ROOT / "seldump"], input=capture.encode(), stdout=subprocess.PIPE, timeout=SECONDS)
     expect(run.returncode in (0, 3, 4, 5), "seldump ends with status", run.returncode)
     return run.stdout.decode().splitlines()
+
+
+def replayed(questions):
+    """The answers of the program `replay`, which ./check has built by now: run as it is, or with the toolchain's own C library, as tools/program.sh does."""
+    program = ROOT / "target/bin/replay"
+    expect(program.exists(), "no target/bin/replay; build it: rt check replay")
+    commands = [[program]]
+    if shutil.which("rt"):
+        kit = pathlib.Path(subprocess.check_output(["rt", "doc"], text=True).strip()).parent.parent / "on" / platform.machine() / "toolchain"
+        emulator = kit / "bin/qemu-x86_64"
+        commands.append([*[emulator] * emulator.exists(), kit / "lib/ld-linux-x86-64.so.2", "--library-path", kit / "lib", program])
+    asked = "".join(f"{question}\n" for question in questions).encode()
+    for command in commands:
+        with contextlib.suppress(OSError):
+            run = subprocess.run(command, input=asked, stdout=subprocess.PIPE, stderr=subprocess.DEVNULL, timeout=SECONDS)
+            if run.returncode == 0:
+                answers = run.stdout.decode().splitlines()
+                same(len(answers), len(questions))
+                return answers
+    raise AssertionError("target/bin/replay does not run here")
 
 
 def convert(*words, data=b""):

@@ -58,7 +58,9 @@ def notes_that_are_none_of_ours():
     """Whether there is a capture or not, they are left as they are, and nothing is asked."""
     script, text = chain(1, 2)
     good = notes()
-    for there in ("", "root:x:0:0\n", good + "\n", good[:-1], good.replace("2000", "x"), good.replace("slots=0", "slots=none"), "host=a\n" + good, good.replace("first", "1st"), good * 2):
+    sizes = [good + more for more in ("bytes=0\n", "bytes=04\n", "bytes=256\n", "bytes=none\n", "bytes=4", "bytes=4\nbytes=4\n", "byte=4\n")]
+    for there in ("", "root:x:0:0\n", good + "\n", good[:-1], good.replace("2000", "x"), good.replace("slots=0", "slots=none"), "host=a\n" + good,
+                  good.replace("first", "1st"), good * 2, *sizes, "bytes=4\n" + good):
         for capture in (None, text[:59]) if there else (None, "", text[:59]):
             with Room(script, capture, notes=there) as room:
                 room.refuses("capture.txt.info is not what this program writes there; move it away, or take another name")

@@ -1,9 +1,7 @@
 """tools/capture live, with a script that stands in for ipmitool."""
 
-import contextlib
 import os
 import pathlib
-import pty
 import random
 import re
 import resource
@@ -13,7 +11,7 @@ import sys
 import time
 
 from common import CAPTURE, PATIENCE, SECONDS, convert, expect, line, printed_for, record, same, test
-from stand_in import NO_SUCH_RECORD, Room, answer, at_once, chain, every_process_of, info, no_process_stays, notes
+from stand_in import NO_SUCH_RECORD, Room, answer, at_once, chain, every_process_of, info, no_process_stays, notes, said_on_a_terminal
 
 
 # ---- how a log ends
@@ -434,18 +432,6 @@ def progress_without_a_terminal():
         same((status, said.splitlines()), (0, [f"capture: going on with {room.file}, which has 99 slots", f"capture: {room.file} has 101 slots: ended"]))
 
 
-def said_on_a_terminal(room):
-    read, write = pty.openpty()
-    with room.started(stderr=write) as process:
-        os.close(write)
-        said = b""
-        with contextlib.suppress(OSError):  # the end of a terminal
-            while data := os.read(read, 1000):
-                said += data
-    os.close(read)
-    return said.decode()
-
-
 @test
 def progress_on_a_terminal():
     """With the total, the rate and the time that is left, where the controller tells how many records there are."""
@@ -459,11 +445,26 @@ def progress_on_a_terminal():
 
 @test
 def wrong_calls():
-    for words in ([], ["live"], ["live", ""], ["live", "-I", "lan"], ["live", "--seconds", "0", "x"], ["live", "--seconds"], ["to-raw"], ["from-hex", "--plain", "x"],
+    sizes = [["live", "--bytes", size, "x"] for size in ("", "0", "04", "256", "1000", "-4", "4x", "FF")]
+    for words in ([], ["live"], ["live", ""], ["live", "", ""], ["live", "-I", "lan"], ["live", "--seconds", "0", "x"], ["live", "--seconds"],
+                  *sizes, ["live", "--bytes"], ["live", "--bytes", "4"], ["live", "--bytes", "4", "--bytes", "4", "x"], ["from-raw", "--bytes", "4", "x"],
+                  ["live", "--seconds", "9", "--seconds", "9", "x"], ["to-raw"], ["from-hex", "--plain", "x"],
                   ["from-raw", "x", "y"], ["from-raw", "--raw", "x"], ["shout", "x"], ["-x"]):
         status, out, said = convert(*words)
         same((words, status, out), (words, 2, b""))
         expect("usage: capture live" in said, said)
+
+
+@test
+def wrong_calls_of_the_controller():
+    capture = str(CAPTURE.parent.parent / "examples/made.txt")
+    sizes = [["--bytes", size, capture, "true"] for size in ("", "0", "04", "256", "x")]
+    for words in ([], [capture], *sizes, ["--bytes", "4", "--bytes", "4", capture, "true"], ["--short", "1", capture, "true"], ["--bytes", "4"],
+                  ["--short", "0000=3", "--bytes", "4", capture]):
+        run = subprocess.run([CAPTURE.with_name("controller"), *words], stdout=subprocess.PIPE, stderr=subprocess.PIPE, timeout=SECONDS)
+        same((words, run.returncode, run.stderr[:29]), (words, 2, b"controller: usage: controller"))
+    for words in (["--bytes", "1"], ["--bytes", "255", "--short", "0000=3"], ["--short", "0000=3", "--bytes", "16"], []):
+        same((words, subprocess.run([CAPTURE.with_name("controller"), *words, capture, "false"], timeout=SECONDS).returncode), (words, 1))
 
 
 @test

@@ -495,7 +495,7 @@ def a_controller_that_starts_anew():
 
 
 class Proxy:
-    """Stands before the simulated controller and changes its answer for record 0005h. The session has no authentication, so that it can."""
+    """Stands before the simulated controller and changes its answer for record 0005h, or others. The session has no authentication, so that it can."""
 
     def __init__(self, it, change):
         self.change, self.controller = change, ("127.0.0.1", it.port)
@@ -533,10 +533,24 @@ class Proxy:
     def changed(self, packet):
         """After 13 bytes of headers comes the length of the message: six bytes, completion code, data, checksum."""
         message = packet[14:]
-        if (*message[1:2], *message[5:7], *message[9:11]) != (0x0B << 2, 0x43, 0x00, 0x05, 0x00):
+        if (*message[1:2], *message[5:7]) != (0x0B << 2, 0x43, 0x00) or not self.is_meant(message[7:-1]):
             return packet
         message = message[:6] + self.change(message[6:-1])
         return packet[:13] + bytes([len(message) + 1]) + message + bytes([-sum(message[3:]) & 0xFF])
+
+    def is_meant(self, answer):
+        return answer[2:4] == b"\x05\x00"
+
+
+class FewBytes(Proxy):
+    """Answers at most so many bytes of a record at once, and refuses more with CAh."""
+
+    def __init__(self, it, most):
+        super().__init__(it, lambda _: b"\xca")
+        self.most = most
+
+    def is_meant(self, answer):
+        return len(answer) > 2 + self.most
 
 
 TIMES = [  # what seldump, ipmitool and FreeIPMI print, the latter two as date and time: docs/DIFFERENCES.md has the same
@@ -641,6 +655,33 @@ def a_log_that_is_not_whole_over_the_network():
 
 
 @test
+def records_by_parts_over_the_network():
+    """The very capture that whole reads give."""
+    it = small(8)
+    same(captured_here(it, "whole-reads.txt")[::2], (0, "walk=ended read=8"))
+    whole = (it.path / "whole-reads.txt").read_text()
+    for most in (1, 5, 16, 255):
+        file = it.path / f"parts{most}.txt"
+        said = it.run(CAPTURE, "live", "--bytes", str(most), file, *it.options)
+        same((most, said.returncode, file.read_text()), (most, 0, whole))
+
+
+@test
+def a_controller_that_answers_a_few_bytes_over_the_network():
+    """The size is found. Two other readers list nothing, one of them with status 0: docs/GUIDE.md has the same."""
+    it = small(8)
+    same(captured_here(it, "all-bytes.txt")[::2], (0, "walk=ended read=8"))
+    for most in (1, 4, 15):
+        with FewBytes(it, most) as proxy:
+            status, said, verdict = captured_here(it, f"few{most}.txt", *proxy.ipmitool)
+            listed = it.run("ipmitool", *proxy.ipmitool, "sel", "list")
+            logged = it.run("ipmi-sel", *proxy.freeipmi, "--ignore-sdr-cache", "--no-header-output")
+        same((most, status, verdict, (it.path / f"few{most}.txt").read_text()), (most, 0, "walk=ended read=8", (it.path / "all-bytes.txt").read_text()))
+        expect(f"the controller answers at most {most} byte" in said, said)
+        same((listed.returncode, listed.stdout, logged.returncode, logged.stdout), (0, "", 1, ""))
+
+
+@test
 def other_tools_on_a_log_that_is_not_whole():
     """As docs/DIFFERENCES.md has it. A circle has no end for either: they are stopped after five seconds."""
     it, listed = simulator(), {}
@@ -661,16 +702,16 @@ def other_tools_on_a_log_that_is_not_whole():
 # ---- what ipmitool does, on this machine alone: the commands of docs/GUIDE.md
 
 
-def beside(capture, *command, short=()):
+def beside(capture, *command, options=()):
     """A command beside a controller that answers as the capture of examples/ says."""
-    return subprocess.run([ROOT / "tools/controller", *short, ROOT / "examples" / capture, *command], stdin=subprocess.DEVNULL, stdout=subprocess.PIPE, stderr=subprocess.PIPE,
-                          encoding="latin-1", timeout=SECONDS)
+    return subprocess.run([ROOT / "tools/controller", *options, ROOT / "examples" / capture, *command], stdin=subprocess.DEVNULL, stdout=subprocess.PIPE,
+                          stderr=subprocess.PIPE, encoding="latin-1", timeout=SECONDS)
 
 
-def captured(capture, short=()):
+def captured(capture, options=()):
     with tempfile.TemporaryDirectory() as folder:
         file = pathlib.Path(folder, "capture.txt")
-        said = beside(capture, CAPTURE, "live", file, "-I", "dummy", short=short)
+        said = beside(capture, CAPTURE, "live", file, "-I", "dummy", options=options)
         return said.returncode, said.stderr, printed_for(file.read_text())[-1]
 
 
@@ -696,8 +737,72 @@ def a_missing_record_with_ipmitool():
 def a_short_answer_with_ipmitool():
     """Through this interface ipmitool fills it up with the end of the answer before, and lists that: here a deassertion as an assertion."""
     short = ["--short", "001D=10"]
-    status, said, verdict = captured("circle.txt", short=short)
+    status, said, verdict = captured("circle.txt", options=short)
     same((status, verdict), (1, "walk=missing ask=001D read=3"))
     expect("the answer for 001Dh is short: 10 bytes of 18" in said, said)
-    whole, cut = (beside("circle.txt", "timeout", "2", "ipmitool", "-I", "dummy", "sel", "list", short=words).stdout.splitlines()[3] for words in ([], short))
+    whole, cut = (beside("circle.txt", "timeout", "2", "ipmitool", "-I", "dummy", "sel", "list", options=words).stdout.splitlines()[3] for words in ([], short))
     same((whole.split(" | ")[0].strip(), whole.split(" | ")[-1], cut), ("1d", "Deasserted", whole.replace("Deasserted", "Asserted")))
+
+
+@test
+def a_few_bytes_with_ipmitool():
+    """ipmitool lists nothing, writes an empty file, and ends with status 0."""
+    with tempfile.TemporaryDirectory() as folder:
+        for most in (1, 4, 15, 16):
+            file = pathlib.Path(folder, f"capture{most}.txt")
+            said = beside("made.txt", CAPTURE, "live", file, "-I", "dummy", options=["--bytes", str(most)])
+            same((most, said.returncode, file.read_text()), (most, 0, (ROOT / "examples/made.txt").read_text()))
+            expect(f"the controller answers at most {most} byte" in said.stderr, said.stderr)
+        file = pathlib.Path(folder, "raw")
+        for words in (["list"], ["writeraw", file]):
+            said = beside("made.txt", "ipmitool", "-I", "dummy", "sel", *words, options=["--bytes", "4"])
+            same((said.returncode, said.stdout, "Cannot return number of requested data bytes" in said.stderr), (0, "", True))
+        same(file.read_bytes(), b"")
+
+
+# What tools/controller answers to one ask after the other, by its options: bytes, or a completion code. Of examples/made.txt, the first record.
+FIRST = "02 00 01 00 02 e8 03 00 00 20 00 04 01 30 01 59 5a 55"
+IN_PARTS = {
+    (): """
+        0x43 0 0 0 0 0 0xff | FIRST
+        0x43 0 0 0 0 4 4 | c5
+        0x43 1 0 0 0 4 4 | c5
+        0x42 | 01 00
+        0x43 0 0 0 0 4 4 | c5
+        0x43 1 0 0 0 4 4 | 02 00 03 00 00 20
+        0x43 1 0 0 0 0 16 | FIRST
+        0x43 1 0 0 0 14 0xff | 02 00 5a 55
+        0x43 1 0 0 0 15 2 | ca
+        0x43 1 0 0 0 16 1 | cc
+        0x43 1 0 9 0 0 4 | cb
+    """,
+    ("--bytes", "4"): """
+        0x43 0 0 0 0 0 0xff | ca
+        0x42 | 01 00
+        0x43 1 0 0 0 0 5 | ca
+        0x43 1 0 0 0 0 0xff | ca
+        0x43 1 0 0 0 0 4 | 02 00 01 00 02 e8
+        0x43 1 0 0 0 12 4 | 02 00 01 59 5a 55
+        0x43 1 0 0 0 13 4 | ca
+        0x42 | 02 00
+        0x43 1 0 0 0 0 4 | c5
+        0x43 2 0 0 0 15 1 | 02 00 55
+    """,
+    ("--bytes", "254"): "0x43 0 0 0 0 0 0xff | ca",
+    ("--bytes", "255"): "0x43 0 0 0 0 0 0xff | FIRST",
+    ("--bytes", "4", "--short", "0000=4"): """
+        0x42 | 01 00
+        0x43 1 0 0 0 0 4 | 02 00 01 00
+        0x43 1 0 0 0 4 4 | 02 00
+    """,
+}
+
+
+@test
+def parts_of_tools_controller():
+    for options, asks in IN_PARTS.items():
+        rows = [row.strip().replace("FIRST", FIRST).split(" | ") for row in asks.strip().splitlines()]
+        commands = "".join(f"ipmitool -I dummy raw 0x0a {ask} 2>&1 | tr '\\n' ' '; echo\n" for ask, _ in rows)
+        said = beside("made.txt", "sh", "-c", commands, options=options).stdout.splitlines()
+        came = [refused[1] if (refused := re.search(r"rsp=0x(\w\w)", line)) else " ".join(line.split()) for line in said]
+        same((options, [[ask, answer] for (ask, _), answer in zip(rows, came)]), (options, rows))

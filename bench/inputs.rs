@@ -333,6 +333,49 @@ fn requests(records: &[Vec<u8>]) -> Vec<Row> {
     ]
 }
 
+/// By the rules: offset and count of each read where at most m bytes come at once.
+fn reads(m: usize) -> Vec<(usize, usize)> {
+    (0..16).step_by(m).map(|offset| (offset, m.min(16 - offset))).collect()
+}
+
+fn reads_answer(question: &[u8]) -> String {
+    accepted(&reads(question[0].into()).iter().flat_map(|(offset, count)| [*offset as u8, *count as u8]).collect::<Vec<_>>())
+}
+
+/// Reservation, id, offset and count, as they stand in the question behind the command.
+fn part_answer(question: &[u8]) -> String {
+    accepted(&question[1..])
+}
+
+/// The answers to the reads of a record, end to end, all with the next id that two of its bytes make.
+fn in_parts(record: &[u8], m: usize) -> Vec<u8> {
+    reads(m).iter().flat_map(|(offset, count)| [&record[4..6], &record[*offset..][..*count]].concat()).collect()
+}
+
+fn joined_answer<const M: usize>(answers: &[u8]) -> String {
+    let record: Vec<u8> = answers.chunks(2 + M).flat_map(|answer| answer[2..].to_vec()).collect();
+    format!("0 0 next={:04X} got=16 {record:02X?}", word(answers[0], answers[1]))
+}
+
+/// The Rust has the six bytes of the request too, but asks for whole records alone: its side of that row is its request for a whole record.
+fn parts(records: &[Vec<u8>]) -> Vec<Row> {
+    let reads = |m: u8| of_ours(format!("reads, m = {m}"), vec![vec![m]], 0, ours::reads, (reads_answer, answers::reads));
+    let part = |(record, offset): (&Vec<u8>, u8)| {
+        let (offset, left) = (offset % 16, 16 - offset % 16);
+        vec![0x43, record[3] | 1, record[4], record[0], record[1], offset, 1 + record[5] % left]
+    };
+    let in_parts = |m| records.iter().map(|record| in_parts(record, m)).collect();
+    vec![
+        reads(1),
+        reads(16),
+        row("request 43h for a part, the Rust's for the whole", records.iter().zip((0..16).cycle()).map(part).collect(), original::request_entry,
+            ours::request_part, (part_answer, answers::request_part)),
+        of_ours("record joined by 1, 16 answers".into(), in_parts(1), 0, ours::join_by_1, (joined_answer::<1>, answers::join_by_1)),
+        of_ours("record joined by 4, 4 answers".into(), in_parts(4), 0, ours::join_by_4, (joined_answer::<4>, answers::join_by_4)),
+        of_ours("record joined by 16, 1 answer".into(), in_parts(16), 0, ours::join_by_16, (joined_answer::<16>, answers::join_by_16)),
+    ]
+}
+
 fn slots(capture: &[u8]) -> usize {
     capture.len() / 20
 }
@@ -468,6 +511,6 @@ fn lengths() -> Vec<Row> {
 
 pub fn rows() -> impl Iterator<Item = Row> {
     let records = records();
-    let of_records = [entries, written, others, texts, requests];
+    let of_records = [entries, written, others, texts, requests, parts];
     of_records.into_iter().flat_map(move |rows| rows(&records)).chain(lengths()).chain(searches())
 }

@@ -20,6 +20,14 @@ pub struct Found {
 }
 
 #[repr(C)]
+pub struct Joined {
+    number: u32,
+    value: u32,
+    next: u16,
+    got: u8,
+}
+
+#[repr(C)]
 pub struct Same {
     number: u32,
     value: u32,
@@ -74,6 +82,9 @@ extern "C" {
     fn sel_time_text(time: u32, out: *mut u8, out_length: usize) -> Answer;
     fn sel_log_time_text(time: u32, out: *mut u8, out_length: usize) -> Answer;
     fn sel_request(command: u8, reservation: u16, argument: u16, out: *mut u8, out_length: usize) -> Answer;
+    fn sel_reads(m: u8, out: *mut u8, out_length: usize) -> Answer;
+    fn sel_request_part(reservation_id: u16, record_id: u16, offset: u8, bytes_to_read: u8, out: *mut u8, out_length: usize) -> Answer;
+    fn sel_join(m: u8, got: u8, next: u16, answer: *const u8, answer_length: usize, record: *mut u8, record_length: usize) -> Joined;
     fn sel_slots_length(len: usize) -> u32;
     fn sel_find(slots: *const u8, slots_length: usize, id: u16) -> Found;
     fn sel_walk(slots: *const u8, slots_length: usize, budget: usize, list: *mut u16, list_length: usize) -> Walk;
@@ -102,6 +113,16 @@ unsafe fn decode(kind: u8, data: &[u8], room: &mut Room) -> Answer {
 #[inline(always)]
 unsafe fn request(command: u8, reservation: u16, argument: u16, room: &mut Room) -> Answer {
     sel_request(command, reservation, argument, room.out.as_mut_ptr(), room.out.len())
+}
+
+/// Joins a record from its answers, which stand end to end: each but the last is of m bytes behind a next id.
+#[inline(always)]
+unsafe fn join(m: u8, answers: &[u8], room: &mut Room) -> Joined {
+    let mut joined = Joined { number: 0, value: 0, next: 0, got: 0 };
+    for answer in answers.chunks(2 + usize::from(m)) {
+        joined = sel_join(m, joined.got, joined.next, answer.as_ptr(), answer.len(), room.out.as_mut_ptr(), room.out.len());
+    }
+    joined
 }
 
 /// Puts back the index of all slots but the last one, which the call before has extended.
@@ -194,6 +215,17 @@ calls! {
         let [_, low, high, id_low, id_high] = *fixed(question);
         request(0x43, word(low, high), word(id_low, id_high), room)
     };
+    reads, hex: |question, room| {
+        let [m] = *fixed(question);
+        sel_reads(m, room.out.as_mut_ptr(), room.out.len())
+    };
+    request_part, hex: |question, room| {
+        let [_, low, high, id_low, id_high, offset, bytes_to_read] = *fixed(question);
+        sel_request_part(word(low, high), word(id_low, id_high), offset, bytes_to_read, room.out.as_mut_ptr(), room.out.len())
+    };
+    join_by_1, record: |answers, room| join(1, answers, room);
+    join_by_4, record: |answers, room| join(4, answers, room);
+    join_by_16, record: |answers, room| join(16, answers, room);
     length, told: |question, room| {
         let [kind, low, high] = *fixed(question);
         sel_length(kind, word(low, high) as usize)
@@ -279,6 +311,10 @@ fn sameness(answer: Same, _: &Room) -> String {
         0 => format!("0 {:02X}", answer.same),
         number => format!("{number} {:02X} of record {}", answer.value, answer.refused),
     }
+}
+
+fn record(answer: Joined, room: &Room) -> String {
+    format!("{} {} next={:04X} got={} {:02X?}", answer.number, answer.value, answer.next, answer.got, &room.out[..16])
 }
 
 fn slot(answer: Found, _: &Room) -> String {

@@ -6,7 +6,8 @@
  * allocated, and every call ends. The statements: crates/abi has each contract, crates/claims what is said here beyond them.
  *
  * Numbers handed back (docs/SCOPE.md): 0 accepted, 1 too short, 2 unknown record type, 3 invalid channel, 4 no room,
- * 5 bad capture, 7 no such record, 8 too long, 9 a reservation of 0, 10 wrong index, 11 no such version; 255 no such
+ * 5 bad capture, 7 no such record, 8 too long, 9 a reservation of 0, 10 wrong index, 11 no such version, 13 no bytes at
+ * once, 14 no reservation, 15 next ids differ, 16 no such part of a record, or an answer after the last; 255 no such
  * letter, command or number, or not the bytes of one. Where the number is not 0, every lent slice is as it was. Where it
  * is 0, what stands behind the bytes written is as it was. */
 #ifndef SEL_H
@@ -240,6 +241,69 @@ SelAnswer sel_log_time_text(uint32_t time, uint8_t *out, size_t out_length);
  *   47h Clear SEL: reservation (2), `CLR`, AAh; the argument is 00AAh to erase, or 0000h to ask for the status, and then the last byte is 00h
  * 255 for any other command, and for any other argument of 47h; then 4. */
 SelAnswer sel_request(uint8_t command, uint16_t reservation, uint16_t argument, uint8_t *out, size_t out_length);
+
+/* The most bytes that sel_reads writes: two for each of 16 reads. */
+#define SEL_READS 32
+
+/* The reads of a record from a controller that answers at most m bytes of it at once. Writes offset and count of each,
+ * two bytes a read, at most SEL_READS (32). In order they cover the 16 bytes of a record with no gap and no overlap,
+ * each of the smaller of m and 16, the last of what is left. No list of reads of 1 to m bytes that covers the record,
+ * in whatever order and with whatever overlaps, is shorter. With a reservation, sel_request_part refuses none of them
+ * but for room.
+ * 13 where m is 0; then 4 with twice the number of reads.
+ *
+ * So a record is read, where ask stands for the way to the controller, and n is the length of its answer:
+ *
+ *     uint8_t reads[SEL_READS], request[SEL_REQUEST], answer[18], whole[18], flat[SEL_FLAT];
+ *     SelJoined j = {0, 0, 0, 0};
+ *     SelAnswer list = sel_reads(m, reads, sizeof reads);
+ *     if (list.number != 0) return list;
+ *     for (size_t i = 0; i < list.value; i += 2) {
+ *         SelAnswer r = sel_request_part(reservation_id, record_id, reads[i], reads[i + 1], request, sizeof request);
+ *         if (r.number != 0) return r;
+ *         size_t n = ask(0x43, request, r.value, answer);
+ *         j = sel_join(m, j.got, j.next, answer, n, whole + 2, 16);
+ *         if (j.number != 0) return (SelAnswer){j.number, j.value};
+ *     }
+ *     whole[0] = (uint8_t)j.next, whole[1] = (uint8_t)(j.next >> 8);
+ *     return sel_get_entry(whole, 18, flat, sizeof flat); */
+SelAnswer sel_reads(uint8_t m, uint8_t *out, size_t out_length);
+
+/* Writes the payload of Get SEL Entry (43h) for a part of a record, SEL_REQUEST (6) bytes: reservation (2), record id
+ * (2), offset, bytes to read. Such a request needs a reservation; one for a whole record is sel_request's, with 00h and
+ * FFh.
+ * 14 where the reservation is 0; then 16 where bytes_to_read is 0, or offset and bytes_to_read together are over 16,
+ * and so for FFh too; then 4 with 6. */
+SelAnswer sel_request_part(uint16_t reservation_id, uint16_t record_id, uint8_t offset, uint8_t bytes_to_read,
+                           uint8_t *out, size_t out_length);
+
+/* number: 0, 1, 4, 8, 13, 15 or 16.
+ * value:  the bytes that the answer needs where the number is 1, and 16 where it is 4; else 0.
+ * next:   the next id that came with the bytes that are there.
+ * got:    how many bytes of the record are there. For a refusal, next and got are those given. */
+typedef struct SelJoined {
+    uint32_t number;
+    uint32_t value;
+    uint16_t next;
+    uint8_t got;
+} SelJoined;
+
+/* Takes the answer to the next read of a record that is joined in lent bytes, 16 or more. m is that of sel_reads; got
+ * says how many bytes of the record are there, 0 at first; next is the next id that came with them, any number while
+ * got is 0. The next read is of the smaller of m and 16 - got bytes from the byte got on: from 0 on, these are the
+ * reads of sel_reads, in order. An answer, without the completion code, is the next id (2) and exactly the bytes of its
+ * read. Taken, its bytes stand at their place in the record, all others are as they were, those behind the sixteenth
+ * too, and got and next are the new ones, to be given with the next answer.
+ * 13 where m is 0; then 16 where got is 16 or more, an answer after the last; then 1, with two more than the read has,
+ * for a shorter answer, and 8 for a longer one; then 15 where got is not 0 and the answer has another next id than
+ * next; then 4 with 16. A refused answer leaves all as it was, so that another one can be handed in for the same read.
+ * So the answers to the reads of sel_reads, each the bytes of its read behind one next id, join to the record and that
+ * id, whatever is refused in between; and wherever got has come from 0 to 16 with one m and in the same bytes, the
+ * answers taken were those, of the record and the next id that are there. Then next, the lower byte first, and the 16
+ * bytes are the answer to a read of the whole record, which sel_get_entry and sel_get_entry_of read as any other; for m
+ * from 16 on it is the one answer taken. */
+SelJoined sel_join(uint8_t m, uint8_t got, uint16_t next, const uint8_t *answer, size_t answer_length, uint8_t *record,
+                   size_t record_length);
 
 /* 0 with the number as value for a valid channel, 0h to Bh, Eh and Fh; 3 with it for any other number. */
 SelAnswer sel_channel(uint8_t number);

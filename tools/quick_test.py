@@ -156,13 +156,14 @@ pub extern "C" fn sel_length(kind: u8, len: usize) -> u32
 ''',
     'crates/field/specs/Handed.antt': ''.join(f'{x} = handed {n} []\n' for x, n in (
         ('notEnoughData', 1), ('unknownType t', 2), ('invalidChannel n', 3), ('noRoom n', 4), ('badCapture', 5), ('noSuchRecord', 7), ('tooLong', 8),
-        ('noReservation', 9), ('wrongIndex', 10), ('unnamedVersion', 11))),
+        ('noReservation', 9), ('wrongIndex', 10), ('unnamedVersion', 11), ('noBytes', 13), ('unreserved', 14), ('nextDiffers', 15), ('noSuchPart', 16))),
     RUST + 'connection.rs': 'const IPMI_1_5: u8 = 0x51;\nconst IPMI_2_0: u8 = 0x02;\n',
     RUST + 'refusal.rs': ''.join(f'const {x}: u32 = {n};\n' for x, n in (
         ('TOO_SHORT', 1), ('UNKNOWN_TYPE', 2), ('INVALID_CHANNEL', 3), ('NO_ROOM', 4), ('BAD_CAPTURE', 5), ('NO_SUCH_RECORD', 7), ('TOO_LONG', 8),
-        ('NO_RESERVATION', 9))) + 'pub(crate) const WRONG_INDEX: u32 = 10;\n',
+        ('NO_RESERVATION', 9), ('NO_BYTES', 13), ('UNRESERVED', 14), ('NEXT_DIFFERS', 15), ('NO_SUCH_PART', 16))) + 'pub(crate) const WRONG_INDEX: u32 = 10;\n',
     HEADER: '''/* 0 accepted, 1 too short, 2 unknown record type, 3 invalid channel, 4 no room, 5 bad capture, 7 no such record, 8 too long,
- * 9 a reservation of 0, 10 wrong index, 11 no such version; 255.
+ * 9 a reservation of 0, 10 wrong index, 11 no such version, 13 no bytes at once, 14 no reservation, 15 next ids differ,
+ * 16 no such part of a record, or an answer after the last; 255.
  * A record of the log, 16 bytes or more: 1 with 16 under 16 bytes; 2 with the type. 1 with 18 under 18 bytes; then 2 and 3 as sel_entry.
  * 1 with 9 under 9 bytes; then 4. 1 with 14 under 14 bytes, 8 over 14. 1 with 2 under 2 bytes, then 9. 1 with 1 where it is empty.
  * value: 16 where it is 1, the record type where it is 2. Refused: under 16 for e, under 18 for g, under 14 for i, under 9 for a, under 2 for r,
@@ -190,6 +191,7 @@ typedef struct SelAnswer {
 #define SEL_FLAT 2
 #define SEL_REQUEST 1
 #define SEL_KEPT 8
+#define SEL_READS 32
 #define SEL_IPMI_1_5 0x51
 #define SEL_IPMI_2_0 0x02
 
@@ -237,6 +239,7 @@ pub(crate) fn text(starts: &[u16], [event_type, sensor_type]: [u8; 2], id: u16, 
     RUST + 'flat.rs': '/// The most bytes.\nconst MOST: usize = 2;\n',
     RUST + 'request.rs': 'const MOST: usize = 1;\n',
     RUST + 'storage/sel/kept.rs': 'pub const KEPT: usize = 8;\n',
+    RUST + 'parts.rs': 'const READS: usize = 32;\n',
 }
 ALL = EXPORTS['crates.txt'].replace(':', '').split()
 EXPORTS[FLOORS] = '    floor  rooms\n        1  ' + '  '.join(ALL) + '\n\n' + ''.join(f'- `{c}`: words\n' for c in ALL)
@@ -272,6 +275,8 @@ CHANGED = [
     (RUST + 'flat.rs', '= 2', '= 3', 'flat.rs: MOST is 3, and flatRoom is 2'),
     (RUST + 'request.rs', 'const', '// const', 'request.rs: MOST is no number'),
     (RUST + 'storage/sel/kept.rs', '= 8', '= 5', 'kept.rs: KEPT is 5, and keptRoom is 8'),
+    (RUST + 'parts.rs', '= 32', '= 16', 'parts.rs: READS is 16, and 2 * entryBytes is 32'),
+    (HEADER, 'SEL_READS 32', 'SEL_READS 33', 'SEL_READS is 33, and 2 * entryBytes is 32'),
     ('crates/storage/specs/Time.antt', 'timeRoom = 3', 'timeRoom = 1 + 2', 'Time.antt: no line timeRoom = a number'),
     (ABI, '#[no_mangle]\n', '', 'crates/abi/src cannot be read: 0 functions'),
     (ABI, '#[no_mangle]\npub extern "C" fn sel_length', '#[no_mangle]\npub fn sel_length', 'crates/abi/src cannot be read: 1 functions'),
@@ -285,6 +290,8 @@ CHANGED = [
     ('crates/field/specs/Handed.antt', 'tooLong = handed 8', 'tooLong = handed 10', 'refusal.rs: TOO_LONG is 8, and tooLong is 10'),
     (HEADER, '11 no such', '10 no such', 'include/sel.h does not say: 0 accepted, 1 too short'),
     (HEADER, '10 wrong', '12 wrong', 'include/sel.h does not say: 0 accepted, 1 too short'),
+    (HEADER, '14 no res', '13 no res', 'include/sel.h does not say: 0 accepted, 1 too short'),
+    (RUST + 'refusal.rs', 'NO_SUCH_PART: u32 = 16', 'NO_SUCH_PART: u32 = 15', 'refusal.rs: NO_SUCH_PART is 15, and noSuchPart is 16'),
     (RUST + 'refusal.rs', 'WRONG_INDEX: u32 = 10', 'WRONG_INDEX: u32 = 12', 'refusal.rs: WRONG_INDEX is 12, and wrongIndex is 10'),
     (RUST + 'refusal.rs', 'pub(crate) const', '// pub(crate) const', 'refusal.rs: WRONG_INDEX is None, and wrongIndex is 10'),
     (HEADER, 'SEL_IPMI_1_5 0x51', 'SEL_IPMI_1_5 0x15', 'SEL_IPMI_1_5 is 0x15, and ipmi15 is 0x51'),

@@ -5,7 +5,7 @@ ABI, HEADER, RUST = 'crates/abi/src', 'include/sel.h', 'rust/ipmi-sel/src'
 # The answer of most functions stands where the flat form is.
 STRUCTS = 'crates/flat_form/src'
 C = {'u8': 'uint8_t', 'u16': 'uint16_t', 'u32': 'uint32_t', 'usize': 'size_t'}
-# The header's macro; file and name of the constant in Rust; file and name of the definition.
+# The header's macro; file and name of the constant in Rust; file and name of the definition; and how many times that, where it is not once.
 SIZES = [
     ('SEL_STORE', 'text.rs', 'STORE', 'crates/event_offset/specs/Fills.antt', 'storeRoom'),
     ('SEL_PLACES', 'text.rs', 'PLACES', 'crates/event_offset/specs/Places.antt', 'places'),
@@ -15,6 +15,8 @@ SIZES = [
     ('SEL_FLAT', 'flat.rs', 'MOST', 'crates/flat/specs/Sizes.antt', 'flatRoom'),
     ('SEL_REQUEST', 'request.rs', 'MOST', 'crates/flat/specs/Sizes.antt', 'requestRoom'),
     ('SEL_KEPT', 'storage/sel/kept.rs', 'KEPT', 'crates/flat_writer/specs/Kept.antt', 'keptRoom'),
+    # at most as many reads as a record has bytes, of two bytes each
+    ('SEL_READS', 'parts.rs', 'READS', 'crates/field/specs/Lengths.antt', 'entryBytes', 2),
 ]
 # The bytes that each letter's answer needs: what the header says of them, with the names of the definitions.
 LENGTHS = 'crates/field/specs/Lengths.antt'
@@ -34,10 +36,12 @@ SAID = [
 # The numbers of refusals: what the header says of them, and the constants of Rust, with the names of the definitions.
 NUMBERS = 'crates/field/specs/Handed.antt'
 NAMED = ('0 accepted, {notEnoughData} too short, {unknownType} unknown record type, {invalidChannel} invalid channel, {noRoom} no room, {badCapture} bad capture, '
-         '{noSuchRecord} no such record, {tooLong} too long, {noReservation} a reservation of 0, {wrongIndex} wrong index, {unnamedVersion} no such version;')
+         '{noSuchRecord} no such record, {tooLong} too long, {noReservation} a reservation of 0, {wrongIndex} wrong index, {unnamedVersion} no such version, '
+         '{noBytes} no bytes at once, {unreserved} no reservation, {nextDiffers} next ids differ, {noSuchPart} no such part of a record, or an answer after the last;')
 CONSTANTS = [
     ('TOO_SHORT', 'notEnoughData'), ('UNKNOWN_TYPE', 'unknownType'), ('INVALID_CHANNEL', 'invalidChannel'), ('NO_ROOM', 'noRoom'), ('BAD_CAPTURE', 'badCapture'),
     ('NO_SUCH_RECORD', 'noSuchRecord'), ('TOO_LONG', 'tooLong'), ('NO_RESERVATION', 'noReservation'), ('WRONG_INDEX', 'wrongIndex'),
+    ('NO_BYTES', 'noBytes'), ('UNRESERVED', 'unreserved'), ('NEXT_DIFFERS', 'nextDiffers'), ('NO_SUCH_PART', 'noSuchPart'),
 ]
 # The numbers of the versions: the header's macro, the constant of Rust, the definition.
 VERSIONS = [('SEL_IPMI_1_5', 'IPMI_1_5', 'ipmi15'), ('SEL_IPMI_2_0', 'IPMI_2_0', 'ipmi20')]
@@ -146,11 +150,13 @@ def ffi_faults(root, structs, functions, calls):
 
 
 def size_faults(root):
-    for macro, file, constant, spec, name in SIZES:
+    for macro, file, constant, spec, name, *times in SIZES:
         found = re.findall(rf'(?m)^{name} = (\d+)$', (root / spec).read_text() if (root / spec).is_file() else '')
         if len(found) != 1:
             yield f'{spec}: no line {name} = a number'
             continue
+        for n in times:
+            found, name = [str(n * int(found[0]))], f'{n} * {name}'
         said = {
             f'{HEADER}: {macro}': re.findall(rf'(?m)^#define {macro} (\d+) *$', bare(root / HEADER)),
             f'{RUST}/{file}: {constant}': re.findall(rf'(?m)^(?:pub(?:\(crate\))? )?const {constant}: usize = (\d+);$', bare(root / RUST / file)),

@@ -14,6 +14,14 @@ pub(crate) struct Found {
 }
 
 #[repr(C)]
+pub(crate) struct Joined {
+    pub number: u32,
+    pub value: u32,
+    pub next: u16,
+    pub got: u8,
+}
+
+#[repr(C)]
 pub(crate) struct Same {
     pub number: u32,
     pub value: u32,
@@ -40,7 +48,7 @@ pub(crate) struct Walk {
 }
 
 mod library {
-    use super::{Answer, Found, Same, TypedData, Walk};
+    use super::{Answer, Found, Joined, Same, TypedData, Walk};
 
     extern "C" {
         pub fn sel_entry(data: *const u8, data_length: usize, out: *mut u8, out_length: usize) -> Answer;
@@ -90,6 +98,24 @@ mod library {
         pub fn sel_time_text(time: u32, out: *mut u8, out_length: usize) -> Answer;
         pub fn sel_log_time_text(time: u32, out: *mut u8, out_length: usize) -> Answer;
         pub fn sel_request(command: u8, reservation: u16, argument: u16, out: *mut u8, out_length: usize) -> Answer;
+        pub fn sel_reads(m: u8, out: *mut u8, out_length: usize) -> Answer;
+        pub fn sel_request_part(
+            reservation_id: u16,
+            record_id: u16,
+            offset: u8,
+            bytes_to_read: u8,
+            out: *mut u8,
+            out_length: usize,
+        ) -> Answer;
+        pub fn sel_join(
+            m: u8,
+            got: u8,
+            next: u16,
+            answer: *const u8,
+            answer_length: usize,
+            record: *mut u8,
+            record_length: usize,
+        ) -> Joined;
         pub fn sel_channel(number: u8) -> Answer;
         pub fn sel_unit(number: u8) -> Answer;
         pub fn sel_slots_length(len: usize) -> u32;
@@ -221,6 +247,18 @@ pub(crate) fn log_time_text(time: u32, out: &mut [u8]) -> Answer {
 
 pub(crate) fn request(command: u8, reservation: u16, argument: u16, out: &mut [u8]) -> Answer {
     unsafe { library::sel_request(command, reservation, argument, out.as_mut_ptr(), out.len()) }
+}
+
+pub(crate) fn reads(m: u8, out: &mut [u8]) -> Answer {
+    unsafe { library::sel_reads(m, out.as_mut_ptr(), out.len()) }
+}
+
+pub(crate) fn request_part(reservation_id: u16, record_id: u16, offset: u8, bytes_to_read: u8, out: &mut [u8]) -> Answer {
+    unsafe { library::sel_request_part(reservation_id, record_id, offset, bytes_to_read, out.as_mut_ptr(), out.len()) }
+}
+
+pub(crate) fn join(m: u8, got: u8, next: u16, answer: &[u8], record: &mut [u8]) -> Joined {
+    unsafe { library::sel_join(m, got, next, answer.as_ptr(), answer.len(), record.as_mut_ptr(), record.len()) }
 }
 
 pub(crate) fn channel(number: u8) -> Answer {

@@ -2,7 +2,7 @@
 //! contract. The library reads all bytes, and writes all texts, requests and records; here its flat answers become
 //! types.
 //!
-//! The names and signatures are those of ipmi-rs-core 0.6.0; [`capture`], [`Refusal`], [`Request`], [`storage::Timestamp::log_text`],
+//! The names and signatures are those of ipmi-rs-core 0.6.0; [`capture`], [`parts`], [`Refusal`], [`Request`], [`storage::Timestamp::log_text`],
 //! [`storage::sdr::TypedData`], [`connection::Version`] with the two functions that take it, and
 //! [`storage::sel::Entry::to_bytes`] with [`storage::sel::Kept`], [`storage::sel::Entry::remade`] and [`NoSuchRecord`]
 //! are added. README.md says what differs.
@@ -12,6 +12,7 @@ pub mod connection;
 mod ffi;
 mod flat;
 pub mod nonmax;
+pub mod parts;
 mod refusal;
 mod request;
 #[cfg(feature = "ipmi-rs-core")]

@@ -1,5 +1,6 @@
 //! Why an answer is refused, as the library tells it; and by the library's own mapping, and no other, as the original does.
-//! Beside it the one refusal of an entry that is to be written, and those of an index.
+//! Beside it the one refusal of an entry that is to be written, those of an index, and those of a record that is read by
+//! parts.
 
 use std::error::Error;
 use std::fmt;
@@ -18,6 +19,10 @@ const NO_SUCH_RECORD: u32 = 7;
 const TOO_LONG: u32 = 8;
 const NO_RESERVATION: u32 = 9;
 const WRONG_INDEX: u32 = 10;
+const NO_BYTES: u32 = 13;
+const UNRESERVED: u32 = 14;
+const NEXT_DIFFERS: u32 = 15;
+const NO_SUCH_PART: u32 = 16;
 
 /// Why an answer is refused, as finely as the library tells it. Not in ipmi-rs-core, which tells `TooShort`, `TooLong` and `NoReservation` all as
 /// `NotEnoughData`: its error is `From` this one.
@@ -169,3 +174,62 @@ impl fmt::Display for IndexError {
 }
 
 impl Error for IndexError {}
+
+/// Why a record is not read by parts: the reads are not listed, a part is not asked for, or an answer is not joined. Not in ipmi-rs-core, which
+/// asks for whole records.
+#[derive(Debug, Clone, Copy, PartialEq, Eq)]
+pub enum PartError {
+    /// The answer has fewer bytes than the next id and those of its read, which are so many.
+    TooShort { needed: usize },
+    /// The answer has more bytes than that.
+    TooLong,
+    /// At most 0 bytes of a record at once.
+    NoBytes,
+    /// A part is asked for without a reservation.
+    Unreserved,
+    /// The answer's next id is not that of the answers before it.
+    NextDiffers,
+    /// A part of no byte, or one that goes past the sixteenth; or an answer after the last read.
+    NoSuchPart,
+}
+
+impl PartError {
+    /// Of a number that the library refuses the reads, the request or an answer with.
+    pub(crate) fn told(answer: Answer) -> Self {
+        match answer.number {
+            TOO_LONG => Self::TooLong,
+            NO_BYTES => Self::NoBytes,
+            UNRESERVED => Self::Unreserved,
+            NEXT_DIFFERS => Self::NextDiffers,
+            NO_SUCH_PART => Self::NoSuchPart,
+            _ => Self::TooShort { needed: answer.value },
+        }
+    }
+
+    /// The number of the refusal, as the project's docs/SCOPE.md has it.
+    pub fn number(&self) -> u32 {
+        match self {
+            Self::TooShort { .. } => TOO_SHORT,
+            Self::TooLong => TOO_LONG,
+            Self::NoBytes => NO_BYTES,
+            Self::Unreserved => UNRESERVED,
+            Self::NextDiffers => NEXT_DIFFERS,
+            Self::NoSuchPart => NO_SUCH_PART,
+        }
+    }
+}
+
+impl fmt::Display for PartError {
+    fn fmt(&self, f: &mut fmt::Formatter<'_>) -> fmt::Result {
+        match self {
+            Self::TooShort { needed } => write!(f, "too short, {needed} bytes are needed"),
+            Self::TooLong => write!(f, "too long"),
+            Self::NoBytes => write!(f, "no bytes at once"),
+            Self::Unreserved => write!(f, "no reservation"),
+            Self::NextDiffers => write!(f, "next ids differ"),
+            Self::NoSuchPart => write!(f, "no such part of a record, or an answer after the last"),
+        }
+    }
+}
+
+impl Error for PartError {}

@@ -1,6 +1,6 @@
 use std::num::NonZeroU16;
 
-use crate::ffi;
+use crate::ffi::{self, Answer};
 
 /// The most bytes of a payload.
 const MOST: usize = 6;
@@ -18,6 +18,15 @@ impl Request {
         let mut bytes = [0; MOST];
         let answer = ffi::request(command, reservation_id.map_or(0, NonZeroU16::get), argument, &mut bytes);
         Self { command, bytes, length: answer.value.min(MOST) }
+    }
+
+    /// Of a payload that a function of the library writes to its output; the refusal where there is one.
+    pub(crate) fn written(command: u8, by: impl FnOnce(&mut [u8]) -> Answer) -> Result<Self, Answer> {
+        let mut bytes = [0; MOST];
+        match by(&mut bytes) {
+            Answer { number: 0, value } => Ok(Self { command, bytes, length: value.min(MOST) }),
+            refused => Err(refused),
+        }
     }
 
     /// The number of the command.

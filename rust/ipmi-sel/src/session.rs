@@ -1,20 +1,26 @@
 //! The commands and numbers of this crate where ipmi-rs-core's own are wanted, so that its sessions take them.
 
+use std::convert::Infallible;
 use std::num::NonZeroU16;
 
 use ipmi_rs_core::connection::{self, IpmiCommand, Message, NetFn, NotEnoughData};
 
 use crate::connection::{Channel, LogicalUnit};
+use crate::parts::GetEntryPart;
 use crate::storage::sel::{
     ClearSel, ErasureProgress, GetSelEntry, GetSelInfo, ParseEntryError, ReserveSel, SelAllocInfo, SelEntryInfo, SelGetAllocInfo, SelInfo,
 };
+use crate::Request;
+
+fn message(request: Request) -> Message {
+    Message::new_request(NetFn::Storage, request.command(), request.payload().to_vec())
+}
 
 macro_rules! commands {
     ($($command:ident -> $output:ident, $error:ident;)*) => {$(
         impl From<$command> for Message {
             fn from(command: $command) -> Self {
-                let request = command.request();
-                Message::new_request(NetFn::Storage, request.command(), request.payload().to_vec())
+                message(command.request())
             }
         }
 
@@ -36,6 +42,22 @@ commands! {
     ReserveSel -> NonZeroU16, NotEnoughData;
     GetSelEntry -> SelEntryInfo, ParseEntryError;
     ClearSel -> ErasureProgress, NotEnoughData;
+}
+
+impl From<GetEntryPart> for Message {
+    fn from(command: GetEntryPart) -> Self {
+        message(command.request())
+    }
+}
+
+/// The answer as it came: what it is worth, `Joining::take` tells, which knows the read that it is to.
+impl IpmiCommand for GetEntryPart {
+    type Output = Vec<u8>;
+    type Error = Infallible;
+
+    fn parse_success_response(data: &[u8]) -> Result<Self::Output, Self::Error> {
+        Ok(data.to_vec())
+    }
 }
 
 impl From<Channel> for connection::Channel {

@@ -2,15 +2,15 @@
 //! whose answers must be those of this crate. A line of crates/replay/stdin is a letter and bytes: I, slots; F, an id, an index and slots; X, a
 //! budget, how many places are lent, an index and slots. An index is its count and its numbers.
 
-use std::fs;
-
 use ipmi_sel::capture::{
     add_to_index, check_index, find, find_indexed, index_of, walk, walk_indexed, IndexError, Verdict, Walk, WalkError,
 };
 use ipmi_sel::storage::sel::RecordId;
-use logs::{captures, from_hex, project, slot};
+use logs::{captures, slot};
+use replay::asked;
 
 mod logs;
+mod replay;
 
 /// Captured slot by slot, with the index kept beside: by it each log is walked, and each id found, as without.
 #[test]
@@ -39,16 +39,6 @@ fn logs_of_the_examples() {
     }
     println!("{looked_up} ids were looked up");
     assert!(looked_up > 100);
-}
-
-/// The bytes of each question with this letter that has an answer, and its answer; with any other bytes the answer is `?`.
-fn asked(letter: u8) -> Vec<(Vec<u8>, String)> {
-    let lines = |name: &str| fs::read(project().join("crates/replay").join(name)).unwrap();
-    let (questions, answers) = (lines("stdin"), lines("stdout"));
-    let pairs = questions.split(|byte| *byte == b'\n').zip(answers.split(|byte| *byte == b'\n'));
-    let answered = pairs.filter(|(question, answer)| question.starts_with(&[letter, b' ']) && *answer != b"?");
-    let text = |line: &[u8]| String::from_utf8(line.to_vec()).unwrap();
-    answered.map(|(question, answer)| (from_hex(&text(&question[2..])).unwrap(), text(answer))).collect()
 }
 
 fn number(bytes: &mut &[u8]) -> u16 {

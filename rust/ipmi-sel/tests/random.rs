@@ -10,6 +10,7 @@ use ipmi_sel::capture::{
     same_entry, walk, walk_indexed, AnswerKind, IndexError, RefusedRecord, Walk, WalkError, SLOT,
 };
 use ipmi_sel::connection::{Channel, ChannelNumber, LogicalUnit, Version};
+use ipmi_sel::parts::{reads, GetEntryPart, Joining, Part, PartError};
 use ipmi_sel::storage::sdr::{decode_event, EventData, SensorType, TypedData, TypedData2, TypedData3};
 use ipmi_sel::storage::sel::{
     ClearSel, Entry, EventDirection, EventGenerator, EventMessageRevision, GetSelEntry, GetSelInfo, Kept, ParseEntryError, RecordId,
@@ -549,4 +550,94 @@ fn indexes() {
     }
     assert!((CALLS / 5..CALLS / 5 * 4).contains(&(taken as u64)), "{taken} indexes were right");
     assert!((CALLS / 5..CALLS / 5 * 4).contains(&(added as u64)), "{added} slots were added");
+}
+
+/// At most so many bytes at once: mostly few.
+fn any_most(dice: &mut Dice) -> u8 {
+    [dice.byte() % 18, dice.byte()][usize::from(dice.below(4) == 0)]
+}
+
+#[test]
+fn reads_and_requests_for_a_part() {
+    let mut asked = 0;
+    each_bytes(|[b1, b2, b3, b4, offset, count]| {
+        let (reservation, id) = (NonZeroU16::new(u16::from_le_bytes([b1, b2])), RecordId::new(u16::from_le_bytes([b3, b4])));
+        let (id, offset) = (id.unwrap_or(RecordId::LAST), offset >> (b1 % 5));
+        let bytes_to_read = count >> (b2 % 6);
+        let part = bytes_to_read != 0 && u16::from(offset) + u16::from(bytes_to_read) <= 16;
+        let told = GetEntryPart::new(reservation, id, Part { offset, bytes_to_read });
+        let refused = if reservation.is_none() { Some(PartError::Unreserved) } else { (!part).then_some(PartError::NoSuchPart) };
+        assert_eq!(told.as_ref().err().copied(), refused);
+        let [id_low, id_high] = id.value().to_le_bytes();
+        assert_eq!(told.as_ref().map_or(0, |told| told.request().payload().len()), if refused.is_none() { 6 } else { 0 });
+        if let Ok(told) = told {
+            assert_eq!(told.request().payload(), [b1, b2, id_low, id_high, offset, bytes_to_read]);
+            asked += 1;
+        }
+        let listed = reads(b1);
+        assert_eq!(
+            listed.as_ref().map_or(0, |reads| reads.iter().map(|read| u16::from(read.bytes_to_read)).sum()),
+            if b1 == 0 { 0 } else { 16 }
+        );
+        assert_eq!(listed.map(|reads| reads.len()).ok(), (b1 != 0).then(|| (15 + usize::from(b1)) / usize::from(b1)));
+    });
+    assert!(asked > 10_000, "{asked} parts were asked for");
+}
+
+/// An answer to the read that is next, or one near it, in a place of its own.
+fn any_answer(dice: &mut Dice, next: u16, part: &[u8]) -> Box<[u8]> {
+    let mut answer = [&next.to_le_bytes()[..], part].concat();
+    match dice.below(10) {
+        0 => drop(answer.pop()),
+        1 => answer.push(dice.byte()),
+        2 => answer.truncate(dice.below(answer.len() + 1)),
+        3 => answer.resize(dice.below(600), 0),
+        4 => answer[dice.below(2)] ^= 1 << dice.below(8),
+        _ => (),
+    }
+    answer.into_boxed_slice()
+}
+
+/// Records of any bytes, from answers of which some are refused.
+#[test]
+fn joinings() {
+    let mut dice = Dice::new(9);
+    let (mut calls, mut refused, mut whole) = (0, 0, 0);
+    while calls < CALLS {
+        let (m, record) = (any_most(&mut dice), dice.bytes(16));
+        let next = dice.number() as u16;
+        let (mut joining, mut had, mut taken) = (Joining::new(m), None, Vec::new());
+        for _ in 0..20 {
+            let (got, before) = (taken.len(), joining.clone());
+            let count = usize::from(m).min(16 - got);
+            let answer = any_answer(&mut dice, had.unwrap_or(next), &record[got..][..count]);
+            let id = answer.get(..2).map(|id| u16::from_le_bytes([id[0], id[1]]));
+            let expected = match () {
+                _ if m == 0 => Err(PartError::NoBytes),
+                _ if got == 16 => Err(PartError::NoSuchPart),
+                _ if answer.len() < 2 + count => Err(PartError::TooShort { needed: 2 + count }),
+                _ if answer.len() > 2 + count => Err(PartError::TooLong),
+                _ if had.is_some() && had != id => Err(PartError::NextDiffers),
+                _ => Ok(()),
+            };
+            assert_eq!(joining.take(&answer), expected, "{answer:02X?}");
+            if expected.is_ok() {
+                taken.extend(&answer[2..]);
+                had = id;
+            } else {
+                assert_eq!(joining, before);
+                refused += 1;
+            }
+            calls += 1;
+            assert_eq!(joining.got(), taken.len());
+            let joined = had.map(|id| [&id.to_le_bytes()[..], &taken].concat());
+            assert_eq!(joining.answer().map(Vec::from), joined.filter(|_| taken.len() == 16));
+        }
+        if let Some(answer) = joining.answer() {
+            assert_eq!(record_bytes(&answer), &taken[..]);
+            assert_eq!(GetSelEntry::parse_success_response(&answer).map(|info| info.entry), Entry::parse(&taken));
+            whole += 1;
+        }
+    }
+    assert!(refused > CALLS / 5 && whole > CALLS / 100, "{refused} answers were refused, and {whole} records joined");
 }

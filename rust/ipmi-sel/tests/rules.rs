@@ -9,6 +9,7 @@ use ipmi_sel::capture::{
 };
 use ipmi_sel::connection::{Channel, ChannelNumber, LogicalUnit, NotEnoughData, Version};
 use ipmi_sel::nonmax::NonMaxU8;
+use ipmi_sel::parts::{reads, GetEntryPart, Joining, Part, PartError};
 use ipmi_sel::storage::sdr::{decode_event, EventData, EventData2Type, EventData3Type, SensorType, TypedData, TypedData2, TypedData3};
 use ipmi_sel::storage::sel::{
     ClearSel, Entry, ErasureProgress, EventDirection, EventGenerator, EventMessageRevision, GetSelEntry, GetSelInfo, Kept, ParseEntryError,
@@ -973,4 +974,129 @@ fn walks_by_an_index() {
     assert_eq!(list, [0, 1]);
     assert_eq!(walk_indexed(&slots(&[(7, 0), (0, 7)]), &[1, 0], 3, &mut list), found(Verdict::Circle, 2));
     assert_eq!(list, [1, 0]);
+}
+
+fn listed(m: u8) -> Result<Vec<(u8, u8)>, PartError> {
+    reads(m).map(|reads| reads.iter().map(|read| (read.offset, read.bytes_to_read)).collect())
+}
+
+#[test]
+fn reads_of_a_record() {
+    assert_eq!(listed(0), Err(PartError::NoBytes));
+    assert_eq!(listed(1), Ok((0..16).map(|byte| (byte, 1)).collect()));
+    assert_eq!(listed(3), Ok(vec![(0, 3), (3, 3), (6, 3), (9, 3), (12, 3), (15, 1)]));
+    assert_eq!(listed(4), Ok(vec![(0, 4), (4, 4), (8, 4), (12, 4)]));
+    assert_eq!(listed(7), Ok(vec![(0, 7), (7, 7), (14, 2)]));
+    assert_eq!(listed(8), Ok(vec![(0, 8), (8, 8)]));
+    assert_eq!(listed(15), Ok(vec![(0, 15), (15, 1)]));
+    for m in 16..=255 {
+        assert_eq!(listed(m), Ok(vec![(0, 16)]));
+    }
+    for m in 1..=255 {
+        let list = listed(m).unwrap();
+        let ends = list.iter().map(|(offset, count)| offset + count);
+        assert!(list.iter().map(|(offset, _)| *offset).eq(std::iter::once(0).chain(ends.clone().take(list.len() - 1))), "{m}");
+        assert_eq!(ends.last(), Some(16), "{m}");
+        assert!(list.iter().rev().skip(1).all(|(_, count)| *count == m.min(16)), "{m}");
+        assert!(list.iter().all(|(_, count)| (1..=m).contains(count)), "{m}");
+        // One read fewer, of at most m bytes each, covers less than the record.
+        assert!((list.len() - 1) * usize::from(m) < 16, "{m}");
+    }
+}
+
+#[test]
+fn requests_for_a_part() {
+    let reservation = NonZeroU16::new(0x1234);
+    let asked = |reservation, id, offset, bytes_to_read| GetEntryPart::new(reservation, id, Part { offset, bytes_to_read });
+    let request = asked(reservation, record_id(0xABCD), 4, 12).unwrap().request();
+    assert_eq!((request.command(), request.payload()), (0x43, &[0x34, 0x12, 0xCD, 0xAB, 0x04, 0x0C][..]));
+    let request = asked(NonZeroU16::new(1), RecordId::LAST, 15, 1).unwrap().request();
+    assert_eq!((request.command(), request.payload()), (0x43, &[0x01, 0x00, 0xFF, 0xFF, 0x0F, 0x01][..]));
+    for (offset, count) in (0..=255).flat_map(|offset| (0..=255).map(move |count| (offset, count))) {
+        let part = 1 <= count && u16::from(offset) + u16::from(count) <= 16;
+        let told = asked(reservation, RecordId::FIRST, offset, count);
+        assert_eq!(told.as_ref().err(), (!part).then_some(&PartError::NoSuchPart), "{offset} {count}");
+        if let Ok(told) = told {
+            assert_eq!(told.request().payload(), [0x34, 0x12, 0x00, 0x00, offset, count]);
+        }
+        // The reservation is asked for first.
+        assert_eq!(asked(None, RecordId::FIRST, offset, count), Err(PartError::Unreserved));
+    }
+    for read in (1..=255).flat_map(|m| reads(m).unwrap()) {
+        assert!(GetEntryPart::new(reservation, RecordId::FIRST, read).is_ok());
+    }
+}
+
+/// What a controller answers to a read.
+fn answer_to(record: &[u8], next: u16, read: Part) -> Vec<u8> {
+    [&next.to_le_bytes()[..], &record[read.offset.into()..][..read.bytes_to_read.into()]].concat()
+}
+
+/// Hands in an answer that is refused with this, and leaves the joining as it was.
+fn refuses(joining: &mut Joining, answer: &[u8], why: PartError) {
+    let before = joining.clone();
+    assert_eq!(joining.take(answer), Err(why), "{answer:02X?}");
+    assert_eq!(*joining, before, "{answer:02X?}");
+}
+
+#[test]
+fn answers_joined() {
+    for (m, next) in (1..=255).flat_map(|m| [0, 0x0100, 0x1234, 0xFFFF].map(|next| (m, next))) {
+        let (mut joining, mut got) = (Joining::new(m), 0);
+        for read in reads(m).unwrap() {
+            assert_eq!((joining.got(), joining.answer()), (got, None));
+            let answer = answer_to(&RECORD, next, read);
+            let needed = answer.len();
+            for short in 0..needed {
+                refuses(&mut joining, &answer[..short], PartError::TooShort { needed });
+            }
+            for long in [needed + 1, needed + 255, needed + 256] {
+                refuses(&mut joining, &[&answer[..], &vec![0; long - needed]].concat(), PartError::TooLong);
+            }
+            if got > 0 {
+                for other in [next ^ 1, next ^ 0x8000, !next] {
+                    refuses(&mut joining, &answer_to(&RECORD, other, read), PartError::NextDiffers);
+                }
+                // The length is told first.
+                refuses(&mut joining, &answer_to(&RECORD, !next, read)[1..], PartError::TooShort { needed });
+            }
+            assert_eq!(joining.take(&answer), Ok(()));
+            got += usize::from(read.bytes_to_read);
+        }
+        assert_eq!(joining.got(), 16);
+        let whole = joining.answer().unwrap();
+        assert_eq!(whole[..], [&next.to_le_bytes(), &RECORD[..]].concat());
+        let info = GetSelEntry::parse_success_response(&whole).unwrap();
+        assert_eq!((info.next_entry.value(), info.entry.to_bytes()), (next, Ok(RECORD)));
+        // After the last, whatever it is.
+        for length in 0..20 {
+            refuses(&mut joining, &vec![0; length], PartError::NoSuchPart);
+        }
+    }
+    // Any next id at first, then that one alone.
+    let mut joining = Joining::new(8);
+    assert_eq!(joining.take(&[0xFE, 0xCA, 1, 2, 3, 4, 5, 6, 7, 8]), Ok(()));
+    refuses(&mut joining, &[0x00, 0x00, 9, 10, 11, 12, 13, 14, 15, 16], PartError::NextDiffers);
+    refuses(&mut joining, &[0xCA, 0xFE, 9, 10, 11, 12, 13, 14, 15, 16], PartError::NextDiffers);
+    assert_eq!(joining.take(&[0xFE, 0xCA, 9, 10, 11, 12, 13, 14, 15, 16]), Ok(()));
+    assert_eq!(joining.answer(), Some([0xFE, 0xCA, 1, 2, 3, 4, 5, 6, 7, 8, 9, 10, 11, 12, 13, 14, 15, 16]));
+    // With m of 0 nothing is taken.
+    for length in 0..20 {
+        refuses(&mut Joining::new(0), &vec![0; length], PartError::NoBytes);
+    }
+}
+
+#[test]
+fn why_a_record_is_not_read_by_parts() {
+    let told = [
+        (PartError::TooShort { needed: 3 }, 1, "too short, 3 bytes are needed"),
+        (PartError::TooLong, 8, "too long"),
+        (PartError::NoBytes, 13, "no bytes at once"),
+        (PartError::Unreserved, 14, "no reservation"),
+        (PartError::NextDiffers, 15, "next ids differ"),
+        (PartError::NoSuchPart, 16, "no such part of a record, or an answer after the last"),
+    ];
+    for (why, number, text) in told {
+        assert_eq!((why.number(), why.to_string()), (number, text.to_string()));
+    }
 }

@@ -6,6 +6,8 @@ use std::panic;
 
 use dice::Dice;
 use ipmi_rs_core::connection::{IpmiCommand, Message};
+use ipmi_sel::parts::{reads, GetEntryPart, Joining};
+use ipmi_sel::storage::sel::{GetSelEntry, RecordId, ReserveSel};
 use logs::{captures, from_hex, project, slot};
 
 mod dice;
@@ -39,7 +41,7 @@ impl Session {
             0x40 => vec![0x51, self.answers.len() as u8, 0, 0xF0, 0x3F, 0xE8, 0x03, 0, 0, 0, 0, 0, 0, 0x0B],
             0x41 => vec![0x00, 0x04, 0x14, 0x00, 0x80, 0x00, 0x60, 0x00, 0x01],
             0x42 => vec![0x34, 0x12],
-            0x43 => self.answer(u16::from_le_bytes([message.data()[2], message.data()[3]])).to_vec(),
+            0x43 => self.part(message.data()),
             _ => vec![u8::from(message.data()[5] == 0)],
         };
         self.sent.push(message);
@@ -48,6 +50,15 @@ impl Session {
 
     fn answer(&self, id: u16) -> &[u8] {
         self.answers.iter().find(|(asked, _)| *asked == id).map_or(&[], |(_, answer)| answer)
+    }
+
+    /// The next id, and of the record what is asked for; FFh bytes are all.
+    fn part(&self, request: &[u8]) -> Vec<u8> {
+        let whole = self.answer(u16::from_le_bytes([request[2], request[3]]));
+        match (request[4], request[5]) {
+            (0, 0xFF) => whole.to_vec(),
+            (offset, count) => [&whole[..2], &whole[2..][offset.into()..][..count.into()]].concat(),
+        }
     }
 
     /// The id that a record's answer names, also where the record cannot be read.
@@ -69,6 +80,31 @@ fn the_logs_of_the_examples() {
     }
     println!("{records} records were asked for");
     assert!(records > 20);
+}
+
+/// The same records by parts, through the same session.
+#[test]
+fn the_logs_of_the_examples_by_parts() {
+    let mut records = 0;
+    for (name, text) in captures() {
+        let mut session = Session::new(text.lines().filter_map(slot).collect());
+        for ask in session.answers.iter().map(|(ask, _)| *ask).collect::<Vec<_>>() {
+            let id = RecordId::new(ask).unwrap_or(RecordId::FIRST);
+            let reservation = session.send_recv(ReserveSel).ok();
+            for m in [1, 3, 4, 8, 15, 16, 255] {
+                let mut joining = Joining::new(m);
+                for read in reads(m).unwrap() {
+                    let answer = session.send_recv(GetEntryPart::new(reservation, id, read).unwrap()).unwrap();
+                    joining.take(&answer).unwrap();
+                }
+                assert_eq!(joining.answer().unwrap(), session.answer(id.value()), "{name}");
+                assert_eq!(session.send_recv(GetSelEntry::new(None, id)), GetSelEntry::parse_success_response(&joining.answer().unwrap()));
+                records += 1;
+            }
+        }
+    }
+    println!("{records} records were joined");
+    assert!(records > 300);
 }
 
 // ---- questions

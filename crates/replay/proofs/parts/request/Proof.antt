@@ -1,0 +1,24 @@
+-- `replay::parts::request` is safe and ends. Assumes nothing.
+use mathlib.Core.Path.{sym}
+use native.Mathlib.Omega.{arith}
+use lib.Seq.{length-take-le}
+use borrow.Author.Needs.{needs}
+use Rattle.replay.proofs.parts.request.Statement.{statement}
+use Rattle.replay.proofs.parts.request.Tie as tie
+
+slice-aggregate-request-into : tie.Need-slice-aggregate-request-into
+slice-aggregate-request-into c = sym (length-take-le _ _ (omega arith))
+
+pub request-spec : {M : Type 1} → statement M
+request-spec =
+    tie.close
+    (tie.spec
+    (λ c. search needs)
+    (λ c κs. search needs)
+    (λ c. search needs)
+    (λ c κs. search needs)
+    (λ c. search needs)
+    (λ c. search needs)
+    slice-aggregate-request-into
+    (λ c κs. search needs)
+    (λ c. search needs))

@@ -1,63 +1,22 @@
--- A record read by parts, in numbers. Assumes nothing.
+-- An answer that is joined, in numbers. Assumes nothing.
 use Prim.Native.Nat.{ℕ, _<_, _≤_}
-use mathlib.Core.Path.{_≡_, sym, ap, _∙_}
+use mathlib.Core.Path.{_≡_}
 use mathlib.Core.List.{List}
-use lib.Dec.{eqb}
-use Rattle.field.specs.Choose.{if_then_else_}
-use Rattle.field.specs.Handed.{noBytes, noSuchPart, unreserved}
-use Rattle.field.proofs.Choices.{float}
+use Rattle.field.specs.Handed.{valueOf}
 use Rattle.partial.specs.Join.{Takes, held, numberOf}
-use Rattle.partial.specs.Reads.{Lists}
-use Rattle.partial.specs.Request.{Requests, mayAsk, noPart}
-use Rattle.partial.specs.declared.GetEntryPart.{GetEntryPart}
 use Rattle.partial.specs.declared.Joined.{Joined}
 use Rattle.partial.specs.declared.Joining.{Joining}
-use Rattle.partial.specs.declared.PartAnswer.{PartAnswer}
-use Rattle.partial.specs.declared.ReadsAnswer.{ReadsAnswer}
 use Rattle.partial.proofs.Rows.{value-few}
 use Rattle.partial.proofs.Taking.{got-few}
-use Rattle.flat_form.specs.Form.{Flat, Gives, flatAnswer, flatLeaves, fromWritten, refusal}
-use Rattle.flat_form.specs.declared.SelAnswer.{SelAnswer}
-use Rattle.abi.specs.Parts.{JoinsPart, partFlat, readsFlat}
+use Rattle.abi.specs.Parts.{JoinsPart}
 
--- what each answer of the reads is in numbers, and of the request
-abbrev pub readsNumbers : ReadsAnswer → SelAnswer
-readsNumbers (ReadsAnswer.Wrote w) = fromWritten w
-readsNumbers ReadsAnswer.NoBytes = refusal noBytes
+module _ {j : Joining} {s old left : List ℕ} {t : Joined} (p : Takes j s old t left) where
+  pub joins : {n v : ℕ} → n ≡ numberOf (t .answer) .number → v ≡ valueOf (numberOf (t .answer))
+      → JoinsPart j s old (record { number = n; value = v; next = t .state .next; got = t .state .got }) left
+  joins d e = record { answered = rw (d, e, p .answered); leaves = p .leaves }
 
-abbrev pub partNumbers : PartAnswer → SelAnswer
-partNumbers (PartAnswer.Wrote w) = fromWritten w
-partNumbers PartAnswer.Unreserved = refusal unreserved
-partNumbers PartAnswer.NoSuchPart = refusal noSuchPart
-
-pub lists : {m : ℕ} {out left : List ℕ} {a w : ReadsAnswer} {r : SelAnswer} → Lists m out a left → a ≡ w → r ≡ readsNumbers w → Gives (readsFlat m) out r left
-lists {m} {out} p e q =
-    record {
-      answered =
-          q ∙ ap readsNumbers (sym e ∙ p .answered) ∙ float readsNumbers (eqb m 0) _ _ ∙ sym (float (λ (f : Flat). flatAnswer f out) (eqb m 0) _ _);
-      leaves = p .leaves ∙ sym (float (λ (f : Flat). flatLeaves f out) (eqb m 0) _ _);
-    }
-
-pub may-float : {A B : Type 0} (f : A → B) (g : GetEntryPart) (none bad good : A) → f (mayAsk g none bad good) ≡ mayAsk g (f none) (f bad) (f good)
-may-float {A} {B} f g none bad good =
-    float f (eqb (g .«reservation_id» .0) 0) _ _
-    ∙ ap (λ (rest : B). if eqb (g .«reservation_id» .0) 0 then f none else rest) (float f (noPart (g .offset) (g .«bytes_to_read»)) bad good)
-
-pub requests : {g : GetEntryPart} {out left : List ℕ} {a w : PartAnswer} {r : SelAnswer} → Requests g out a left → a ≡ w → r ≡ partNumbers w
-    → Gives (partFlat g) out r left
-requests {g} {out} p e q =
-    record {
-      answered =
-          q ∙ ap partNumbers (sym e ∙ p .answered) ∙ may-float partNumbers g _ _ _ ∙ sym (may-float (λ (f : Flat). flatAnswer f out) g _ _ _);
-      leaves = p .leaves ∙ sym (may-float (λ (f : Flat). flatLeaves f out) g _ _ _);
-    }
-
-module _ {j : Joining} {s old left : List ℕ} {t : Joined} {n : SelAnswer} (p : Takes j s old t left) (q : n ≡ refusal (numberOf (t .answer))) where
-  pub joins : JoinsPart j s old (record { number = n .number; value = n .value; next = t .state .next; got = t .state .got }) left
-  joins = record { answered = rw (q, p .answered); leaves = p .leaves }
-
-  pub value-fits : n .value ≤ 18
-  value-fits = rw (q, p .answered) (value-few (held j old) s)
+  pub value-fits : {v : ℕ} → v ≡ valueOf (numberOf (t .answer)) → v ≤ 18
+  value-fits e = rw (e, p .answered) (value-few (held j old) s)
 
   pub got-fits : j .got < 256 → t .state .got < 256
   got-fits g = rw (p .answered) (got-few (held j old) s g)

@@ -16,10 +16,11 @@ use Rattle.partial.proofs.Joins.{stays}
 use Rattle.partial.proofs.Taking.{most-kept}
 use Rattle.flat_form.specs.Form.{Flat, Gives, flatAnswer, fromWritten, refusal}
 use Rattle.flat_form.specs.declared.SelAnswer.{SelAnswer}
-use Rattle.abi.specs.Parts.{JoinsPart, partFlat, readsFlat}
+use Rattle.flat_parts.specs.Parts.{partFlat, readsFlat}
+use Rattle.flat_parts.proofs.Laws.{may-float}
+use Rattle.abi.specs.Parts.{JoinsPart}
 use Rattle.abi.specs.PartsSay.{PartsSay}
 use Rattle.abi.specs.declared.parts.SelJoined.{SelJoined}
-use Rattle.abi.proofs.Parting.{may-float}
 
 reads : (m : ℕ) (out left : List ℕ) (r : SelAnswer) → Gives (readsFlat m) out r left → r ≡ refusal (readsHands m out)
 reads m out left r g =

@@ -9,7 +9,8 @@ use Rattle.partial.specs.declared.GetEntryPart.{GetEntryPart}
 use Rattle.partial.specs.declared.Joining.{Joining}
 use Rattle.flat_form.specs.Form.{Gives, refusal}
 use Rattle.flat_form.specs.declared.SelAnswer.{SelAnswer}
-use Rattle.abi.specs.Parts.{JoinsPart, partFlat, readsFlat}
+use Rattle.flat_parts.specs.Parts.{partFlat, readsFlat}
+use Rattle.abi.specs.Parts.{JoinsPart}
 use Rattle.abi.specs.declared.parts.SelJoined.{SelJoined}
 
 pub record PartsSay : Type 0 where

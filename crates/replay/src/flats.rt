@@ -1,4 +1,6 @@
-// The letters that are answered with flat bytes: those of the crate `flat`, and M, N and K, which have their room in the question.
+// The letters that are answered with flat bytes: those of the crate `flat`, those that have their room in the
+// question, M, N, K and Q, and R.
+use crate::parts;
 use crate::say::say;
 use crate::say::say_bytes;
 use crate::say::say_refusal;
@@ -39,6 +41,8 @@ fn answer_to(letter: u8, data: &[u8], out: &mut [u8]) -> SelAnswer {
         b'M' => flat_writer::made(data, out),
         b'N' => flat_writer::kept::made_kept(data, out),
         b'K' => flat_writer::kept::again(data, out),
+        b'R' => parts::reads(data, out),
+        b'Q' => parts::request(data, out),
         _ => flat::flat(letter, data, out),
     }
 }

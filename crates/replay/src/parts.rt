@@ -9,65 +9,37 @@ use field::byte_at;
 use field::le16_at;
 use field::lengths::ENTRY;
 use field::numbers::NO_BYTES;
-use field::numbers::NO_ROOM;
-use field::numbers::NO_SUCH_PART;
-use field::numbers::UNRESERVED;
-use ids::RecordId;
-use ids::ReservationId;
-use partial::GetEntryPart;
-use partial::JoinAnswer;
+use flat_form::SelAnswer;
+use flat_form::no_question;
 use partial::Joining;
-use partial::PartAnswer;
-use partial::ReadsAnswer;
-use text::Written;
 
-// Offset and count of at most sixteen reads.
-const READS: usize = 32;
-
-fn say_written(w: Written, out: &[u8]) {
-    match w {
-        Written::Length(n) => {
-            say(b"0 ");
-            say_bytes(up_to(out, n));
-        }
-        Written::NoRoom(n) => say_refusal(NO_ROOM, n),
-    }
-}
-
-pub(crate) fn reads(data: &[u8]) {
+pub(crate) fn reads(data: &[u8], out: &mut [u8]) -> SelAnswer {
     if data.len() != 1 {
-        say(b"?");
-        return;
+        return no_question();
     }
-    let mut out = [0xEEu8; READS];
-    match partial::reads(byte_at(data, 0), &mut out) {
-        ReadsAnswer::Wrote(w) => say_written(w, &out),
-        ReadsAnswer::NoBytes => say_refusal(NO_BYTES, 0),
-    }
+    flat_parts::reads(byte_at(data, 0), out)
 }
 
-pub(crate) fn request(data: &[u8]) {
+// The room is in the question.
+pub(crate) fn request(data: &[u8], out: &mut [u8]) -> SelAnswer {
     if data.len() != 7 {
-        say(b"?");
-        return;
+        return no_question();
     }
     let room = byte_at(data, 0) as usize;
-    let mut out = [0xEEu8; 256];
-    request_into(data, &mut out[..room]);
+    if room < out.len() {
+        return request_in(data, &mut out[..room]);
+    }
+    request_in(data, out)
 }
 
-fn request_into(data: &[u8], out: &mut [u8]) {
-    let part = GetEntryPart {
-        reservation_id: ReservationId::new(le16_at(data, 1)),
-        record_id: RecordId::new_raw(le16_at(data, 3)),
-        offset: byte_at(data, 5),
-        bytes_to_read: byte_at(data, 6),
-    };
-    match part.write_request(out) {
-        PartAnswer::Wrote(w) => say_written(w, out),
-        PartAnswer::Unreserved => say_refusal(UNRESERVED, 0),
-        PartAnswer::NoSuchPart => say_refusal(NO_SUCH_PART, 0),
-    }
+fn request_in(data: &[u8], out: &mut [u8]) -> SelAnswer {
+    flat_parts::request(
+        le16_at(data, 1),
+        le16_at(data, 3),
+        byte_at(data, 5),
+        byte_at(data, 6),
+        out,
+    )
 }
 
 // Whether the answers from a place on, each its length and its bytes, are whole.
@@ -81,18 +53,6 @@ fn whole(data: &[u8], at: usize) -> bool {
         at += 1 + n;
     }
     true
-}
-
-fn number_of(answer: JoinAnswer) -> u8 {
-    match answer {
-        JoinAnswer::Taken => 0,
-        JoinAnswer::NoBytes => 13,
-        JoinAnswer::AfterLast => 16,
-        JoinAnswer::TooShort(_) => 1,
-        JoinAnswer::TooLong => 8,
-        JoinAnswer::NextDiffers => 15,
-        JoinAnswer::NoRoom(_) => 4,
-    }
 }
 
 pub(crate) fn join(data: &[u8]) {
@@ -128,7 +88,7 @@ fn hand_in(m: u8, data: &[u8]) {
         }
         let joined = state.take(up_to(from_place(data, at + 1), n), &mut record);
         let answer = joined.answer;
-        let number = [number_of(answer)];
+        let number = [answer.number()];
         say_bytes(&number);
         state = joined.state;
         at += 1 + n;

@@ -1,8 +1,8 @@
--- `sel_reads` meets its contract. Assumes nothing.
+-- `reads` meets its contract. Assumes nothing.
 use borrow.Author.Needs.{needs}
-use Rattle.abi.proofs.Parting.{lists}
-use Rattle.abi.proofs.parts.sel_reads.Statement.{statement}
-use Rattle.abi.proofs.parts.sel_reads.Tie as tie
+use Rattle.flat_parts.proofs.Laws.{lists}
+use Rattle.flat_parts.proofs.reads.Statement.{statement}
+use Rattle.flat_parts.proofs.reads.Tie as tie
 
 returns : tie.Need-returns
 returns c = lists (c .before .before .before .before .before .before .reads .ensures) (c .before .before .w .given .1) (c .of-written .ensures)
@@ -10,8 +10,8 @@ returns c = lists (c .before .before .before .before .before .before .reads .ens
 returns-2 : tie.Need-returns-2
 returns-2 c = lists (c .before .before .before .before .before .reads .ensures) (c .before .enum-told .given .1) (c .refused .ensures)
 
-pub sel-reads-spec : {M : Type 1} → statement M
-sel-reads-spec =
+pub reads-spec : {M : Type 1} → statement M
+reads-spec =
     tie.close
     (tie.spec
     (λ c κs. search needs)

@@ -1,8 +1,8 @@
--- `sel_request_part` meets its contract. Assumes nothing.
+-- `request` meets its contract. Assumes nothing.
 use borrow.Author.Needs.{needs}
-use Rattle.abi.proofs.Parting.{requests}
-use Rattle.abi.proofs.parts.sel_request_part.Statement.{statement}
-use Rattle.abi.proofs.parts.sel_request_part.Tie as tie
+use Rattle.flat_parts.proofs.Laws.{requests}
+use Rattle.flat_parts.proofs.request.Statement.{statement}
+use Rattle.flat_parts.proofs.request.Tie as tie
 
 returns : tie.Need-returns
 returns c =
@@ -22,8 +22,8 @@ returns-3 c =
     rw (at-write .before .before .before .new .ensures, at-write .before .before .new-raw .ensures) at
     (requests (at-write .write-request .ensures) (c .before .enum-told2 .given .1) (c .refused2 .ensures))
 
-pub sel-request-part-spec : {M : Type 1} → statement M
-sel-request-part-spec =
+pub request-spec : {M : Type 1} → statement M
+request-spec =
     tie.close
     (tie.spec
     (λ c κs. search needs)

@@ -66,7 +66,7 @@ use Rattle.log.specs.Verdict.{settledOf}
 use Rattle.log.specs.declared.Closing.{Closing}
 use Rattle.log.specs.declared.Settled.{Settled}
 use Rattle.claims.specs.Demand1.{Demand1, OneOf, Valid}
-use Rattle.claims.specs.Promises.{Promised}
+use Rattle.promises.specs.Promises.{Promised}
 use Rattle.claims.proofs.Lines.{bad-carries, bad-line, good-lines, too-many}
 
 parsed : (kind : AnswerKind) (s : List ℕ) (r : Answer kind) → Promised kind r s → Rows (numberOf kind r) (Row validChannel kind s)

@@ -50,7 +50,7 @@ use Rattle.sel_commands.specs.declared.get_info.InfoAnswer.{InfoAnswer}
 use Rattle.answers.specs.declared.AnswerKind.{AnswerKind}
 use Rattle.sel_commands.specs.declared.reserve.ReserveAnswer.{ReserveAnswer}
 use Rattle.claims.specs.Fields.{AllocFields, ChannelIs, Decoded, EventDataFields, InfoFields, PlainFields, StampedFields, SystemFields, UnitIs}
-use Rattle.claims.specs.Promises.{Promised}
+use Rattle.promises.specs.Promises.{Promised}
 
 -- event data
 three-bytes : (b1 b2 b3 : ℕ) → EventDataFields b1 b2 b3 (eventDataOf (b1 ∷ b2 ∷ b3 ∷ []))

@@ -23,7 +23,7 @@ use Rattle.sel_commands.specs.declared.reserve.ReserveAnswer.{ReserveAnswer}
 use Rattle.capture.specs.Slots.{askedOf, nextOf}
 use Rattle.capture.specs.Walked.{Walked}
 use Rattle.capture.specs.declared.Verdict.{Verdict}
-use Rattle.claims.specs.Promises.{Promised}
+use Rattle.promises.specs.Promises.{Promised}
 
 -- slots 0000h to 0001h and 0001h to FFFFh; and one slot 0000h to 0000h; with a place for each in the lent list
 pub record TwoSlots (s old : List ℕ) : Type 0 where

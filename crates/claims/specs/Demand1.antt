@@ -37,7 +37,7 @@ use Rattle.slot_line.specs.declared.Judged.{Judged}
 use Rattle.log.specs.Closing.{numberOf as logNumber}
 use Rattle.log.specs.Log.{Logged}
 use Rattle.log.specs.declared.Closing.{Closing}
-use Rattle.claims.specs.Promises.{Promised}
+use Rattle.promises.specs.Promises.{Promised}
 
 -- 0h to Bh, Eh and Fh
 abbrev pub Valid : ℕ → Type 0

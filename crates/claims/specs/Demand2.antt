@@ -14,7 +14,7 @@ use Rattle.flat_record.specs.Parsed.{FlatOfParsed}
 use Rattle.flat.specs.Ported.{FlatPorted}
 use Rattle.record_line.specs.SameLine.{SameLine}
 use Rattle.claims.specs.Fields.{Decoded}
-use Rattle.claims.specs.Promises.{Promised}
+use Rattle.promises.specs.Promises.{Promised}
 use Rattle.claims.specs.Requests.{Requests}
 use Rattle.claims.specs.Texts.{DataTexts, EventTexts, TimeTexts, Writes}
 

@@ -12,7 +12,7 @@ use Rattle.same_entry.specs.EqualEntries.{EqualEntries, Parsed, SameSays}
 use Rattle.same_entry.specs.declared.SameAnswer.{SameAnswer}
 use Rattle.answers.specs.declared.AnswerKind.{AnswerKind}
 use Rattle.abi.specs.Sames.{sameAnswer}
-use Rattle.claims.specs.Promises.{Promised}
+use Rattle.promises.specs.Promises.{Promised}
 
 pub record Equality : Type 0 where
   -- the decoded fields of two entries that `Entry::parse` accepts, with the OEM bytes beside them, are equal exactly when these bytes and bits of the

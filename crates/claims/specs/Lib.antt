@@ -10,7 +10,6 @@ pub mod Fields
 pub mod FindFast
 pub mod Header
 pub mod KeptBits
-pub mod Promises
 pub mod Requests
 pub mod SlotAnswer
 pub mod Texts

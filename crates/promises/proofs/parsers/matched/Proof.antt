@@ -2,8 +2,8 @@
 use borrow.Author.Needs.{needs}
 use mathlib.Core.Path.{sym, ap}
 use Rattle.sel.specs.Entry.{openedOf}
-use Rattle.claims.proofs.parsers.matched.Statement.{statement}
-use Rattle.claims.proofs.parsers.matched.Tie as tie
+use Rattle.promises.proofs.parsers.matched.Statement.{statement}
+use Rattle.promises.proofs.parsers.matched.Tie as tie
 
 returns : tie.Need-returns
 returns c = ap openedOf (sym (c .before .e .given .1))

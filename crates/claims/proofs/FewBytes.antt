@@ -10,7 +10,6 @@ use Rattle.field.specs.Lengths.{entryBytes}
 use Rattle.field.proofs.Rows.{rows-are}
 use Rattle.sel.specs.Entry.{parseEntry}
 use Rattle.get_entry.specs.GetEntry.{besideNext, entryRequest, parseAnswer}
-use Rattle.partial.specs.Join.{held}
 use Rattle.partial.specs.Joined.{Between, answersOf, empty, handIn}
 use Rattle.partial.specs.Request.{partRequest}
 use Rattle.partial.proofs.Joins.{joins}
@@ -40,7 +39,7 @@ few-bytes =
       list = λ m out left r p. list-rows m out p;
       listed = λ m out left r p. listed m out p;
       unlisted = λ m out left r p. unlisted m out p;
-      answer = λ j s old left r p. rows-are (sym (p .numbered)) (join-rows (held j old) s .rows);
+      answer = λ j s old left r p. rows-are (sym (p .numbered)) (join-rows j s old .rows);
       refused = λ j s old left r p. p .refused;
       joins = joins;
       only = joins-only;

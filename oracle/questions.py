@@ -6,7 +6,8 @@ its length or by a reservation of 0, which it tells less of, and for what E and 
 which is asked e and g of what follows the version, and answers so what E and G accept; of lines that begin with e or = the two must say the same, and so must
 s and t of the times, and D and d, V and v of the event types, that the rules leave alone; what M and N write both must read as the entry that was asked for,
 and what K writes must be the entry that the Rust reads; of what Q accepts both must say the same six bytes); from panics.txt where the Rust panics, which the
-model must say too; from the Rust for every other line. That a line is no question, `?`, is said by the program that asks the Rust (src/main.rs), or by model.py.
+model must say too; from the Rust for every other line. That a line is no question, `?`, is said by the program that asks the Rust (src/main.rs), or by
+model.py.
 """
 
 import hashlib

@@ -1,13 +1,13 @@
-"""The questions of the program `replay`, in the order of crates/replay/stdin.
+"""The questions of the program `replay`, in the order of crates/replay/stdin, and the records of `seldump`'s capture, crates/seldump/stdin.
 
-Their answers, crates/replay/stdout, come from four places: from model.py for lines that begin with p, w, I, F, X, s, D, V, L, M, K, N, R, J or `ported`, which
-the Rust does not have, for what Q refuses, where it refuses nothing, for what is refused by its length or by a reservation of 0, which it tells less of, and
-for what E and G refuse, as it knows no versions (judge.py: mapped back it must be the Rust's, which is asked e and g of what follows the version, and answers
-so what E and G accept; of lines that begin with e or = the two must say the same, and so must s and t of the times, and D and d, V and v of the event types,
-that the rules leave alone; what M and N write both must read as the entry that was asked for, and what K writes must be the entry that the Rust reads; of what
-Q accepts both must say the same six bytes); from dump.py for the words `entry` and `answer`, whose accepted answers are lines of `seldump`, out of the Rust's
-own answers; from panics.txt where the Rust panics, which the model must say too; from the Rust for every other line. That a line is no question, `?`, is said
-by the program that asks the Rust (src/main.rs), or by model.py.
+What `seldump` must print, crates/seldump/stdout, is by dump.py. The answers of `replay`, crates/replay/stdout, come from three places: from model.py for lines
+that begin with p, w, I, F, X, s, D, V, L, M, K, N, R or J, which the Rust does not have, for what Q refuses, where it refuses nothing, for what is refused by
+its length or by a reservation of 0, which it tells less of, and for what E and G refuse, as it knows no versions (judge.py: mapped back it must be the Rust's,
+which is asked e and g of what follows the version, and answers so what E and G accept; of lines that begin with e or = the two must say the same, and so must
+s and t of the times, and D and d, V and v of the event types, that the rules leave alone; what M and N write both must read as the entry that was asked for,
+and what K writes must be the entry that the Rust reads; of what Q accepts both must say the same six bytes); from panics.txt where the Rust panics, which the
+model must say too; from the Rust for every other line. That a line is no question, `?`, is said by the program that asks the Rust (src/main.rs), or by
+model.py.
 """
 
 import hashlib
@@ -53,12 +53,6 @@ EIGHT_ANSWERS = b"".join(word(k + 1 if k < 8 else 0xFFFF) + word(k) + RECORD[2:]
 
 EDGES = (0x00, 0x01, 0xFE, 0xFF)
 WORDS = (0x0000, 0x0001, 0x00FF, 0x0100, 0x7FFF, 0x8000, 0xFFFE, 0xFFFF)
-
-
-def channels_and_units():
-    for kind in ("channel", "unit"):
-        for value in range(256):
-            yield question(kind, [value])
 
 
 def times():
@@ -164,13 +158,6 @@ def lengths_alone():
     for letter in range(256):
         if letter not in b"egiarc":
             yield question("L", bytes([letter]) + (16).to_bytes(4, "little"))
-
-
-def mapped_back():
-    """Every number of the table and many that are none, with what it may carry."""
-    for number in (*range(256), 2**8 + 1, 2**16 + 8, 2**24 + 9, 2**32 - 1):
-        for value in (0, 9, 0xFFFF):
-            yield question("ported", number.to_bytes(4, "little") + word(value))
 
 
 def eight_answers():
@@ -891,20 +878,8 @@ def any_joining(number):
     return join(m, answers)
 
 
-PARSERS = {"e": "entry", "g": "answer"}
-
-
-def parsed(asked):
-    """Every question of the kinds e and g again, by the word for its parser."""
-    for line in asked:
-        name = PARSERS.get(line[:1])
-        if name and line[1:2] == " ":
-            yield name + line[1:]
-
-
 LETTERS = "eygpiarcdvDVLEGMKNxtsnqwIFXRQJ="
-WORDED = ("channel", "unit", "ported")
-FIXED = {"d": 3, "v": 3, "D": 4, "V": 4, "L": 5, "x": 3, "t": 4, "s": 4, "n": 2, "channel": 1, "unit": 1, "ported": 6, "=": 32, "N": 29, "R": 1, "Q": 7}
+FIXED = {"d": 3, "v": 3, "D": 4, "V": 4, "L": 5, "x": 3, "t": 4, "s": 4, "n": 2, "=": 32, "N": 29, "R": 1, "Q": 7}
 
 
 def malformed():
@@ -914,7 +889,7 @@ def malformed():
              "Q": bytes.fromhex("06341278560F01"), "J": b"\x01\x03" + parts(1)[0]}
     yield ""
     yield from (chr(c) for c in (0x00, 0x09, 0x0D, 0x20, 0x7F, 0xE9))
-    for kind in (*LETTERS, *WORDED, *PARSERS.values()):
+    for kind in LETTERS:
         lines = (kind, kind + "00", kind.upper() + " 00", kind + kind + " 00", f" {kind} 00", f"{kind}  00", f"{kind}\t00", f"{kind}:00")
         # these are questions: two have a version, one has a bad capture, two an m of 0
         yield from (line for line in lines if line not in ("E 00", "G 00", "I 00", "R 00", "J 00"))
@@ -926,7 +901,7 @@ def malformed():
     for c in range(0x21, 0x7F):
         if chr(c) not in LETTERS:
             yield chr(c) + " 00"
-    yield from ("E ", "G ", "chan 00", "channels 00", "units 00", "entries 00", "answers 00", "none", "?")
+    yield from ("E ", "G ", "entry 00", "none", "?")
 
 
 def longest():
@@ -940,8 +915,8 @@ def longest():
 
 
 LETTERED = [
-    *channels_and_units(), *time_texts(), *allocations(), *event_data(), *typed_data(), *event_texts(),
-    *lengths(), *lengths_alone(), *mapped_back(), *eight_answers(), *fields(), *timed_records(), *typed_records(), *unspecified_records(), *oem_records(),
+    *time_texts(), *allocations(), *event_data(), *typed_data(), *event_texts(),
+    *lengths(), *lengths_alone(), *eight_answers(), *fields(), *timed_records(), *typed_records(), *unspecified_records(), *oem_records(),
     *damages(), *version_bytes(), *versioned_channels(), *versioned_types(), *versioned_lengths(), *versioned_damages(), *texts_of_records(),
     *pairs(), *entries_to_write(), *dict.fromkeys((*records_again(), *kept_entries())),
     *record_ids(), *requests(), *small_walks(), *walk_edges(), *long_walks(),
@@ -952,7 +927,25 @@ LETTERED = [
     *malformed(), *longest(),
 ]
 
-ASKED = [*LETTERED, *entries_of_records(LETTERED), *parsed(LETTERED)]
+ASKED = [*LETTERED, *entries_of_records(LETTERED)]
 
 # The last line, which no newline closes.
 UNCLOSED = "t E8030000"
+
+RECORD_AT = {"e": 0, "g": 2}  # where the record begins
+
+
+def records_to_print(asked):
+    """The record of every question of the kinds e and g that has one, each once, also of those that are refused; the case of docs/SCOPE.md first."""
+    kinds = [line for line in asked if line[:1] in RECORD_AT and line[1:2] == " " and model.answer(line) != "?"]
+    records = (bytes.fromhex(line[2:])[RECORD_AT[line[0]]:][:16] for line in kinds)
+    return [*dict.fromkeys((RECORD, *(record for record in records if len(record) == 16)))]
+
+
+def chained(records):
+    """The text of a capture: these records from 0000h to the end."""
+    ids = [*range(len(records)), LAST]
+    return "".join(f"ask={ask:04X} next={following:04X} record={record.hex().upper()}\n" for ask, following, record in zip(ids, ids[1:], records))
+
+
+PRINTED = records_to_print(LETTERED)

@@ -4,7 +4,7 @@ use std::fmt;
 use std::num::NonZeroU16;
 
 use ipmi_rs_core::app::get_entry::GetEntry;
-use ipmi_rs_core::connection::{Channel, IpmiCommand, LogicalUnit, Message};
+use ipmi_rs_core::connection::{IpmiCommand, Message};
 use ipmi_rs_core::storage::sdr::{decode_event, EventData, EventData2Type, EventData3Type, SensorType};
 use ipmi_rs_core::storage::sel::{
     ClearSel, Entry, ErasureProgress, EventDirection, EventGenerator, EventMessageRevision, GetSelEntry, GetSelInfo,
@@ -293,26 +293,4 @@ pub fn partial_request([_room, low, high, id_low, id_high, offset, count]: [u8; 
     let id = any_id(u16::from_le_bytes([id_low, id_high]));
     let message: Message = GetEntry::new(reservation, id).partial(offset, NonMaxU8::new(count)).into();
     accepted(&hex(message.data()))
-}
-
-pub fn channel([value]: [u8; 1]) -> String {
-    let Some(channel) = Channel::new(value) else {
-        return "none".into();
-    };
-    let name = match channel {
-        Channel::Primary => "Primary",
-        Channel::Numbered(_) => "Numbered",
-        Channel::Current => "Current",
-        Channel::System => "System",
-    };
-    format!("{name} {:02X}", channel.value())
-}
-
-/// The unit by the low bits, then the unit where higher bits are turned away.
-pub fn unit([value]: [u8; 1]) -> String {
-    let masked = LogicalUnit::from_low_bits(value).value();
-    match LogicalUnit::try_from(value) {
-        Ok(unit) => format!("{masked:02X} {:02X}", unit.value()),
-        Err(()) => format!("{masked:02X} none"),
-    }
 }

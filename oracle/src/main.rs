@@ -34,8 +34,6 @@ fn answer(question: &str) -> Option<String> {
         "n" => kinds::record_id(bytes.try_into().ok()?),
         "q" => kinds::request(&bytes)?,
         "Q" => kinds::partial_request(bytes.try_into().ok()?),
-        "channel" => kinds::channel(bytes.try_into().ok()?),
-        "unit" => kinds::unit(bytes.try_into().ok()?),
         _ => return None,
     })
 }

@@ -1,13 +1,11 @@
 // Answers questions in the flat form: one a line of standard input, one line of answer each. `stdin` and `stdout` are made by oracle/make.
-// A letter is asked of `flat`, which C and Rust call too; a record and a get-entry answer are also asked of their parsers, by a word.
+// A question is a letter, a space and digits; most letters are asked of `flat`, which C and Rust call too.
 mod flats;
 mod indexes;
-mod parsers;
 mod parts;
 mod sames;
 mod say;
 mod walks;
-mod words;
 
 use libc::STDIN_FILENO;
 use say::say;
@@ -16,28 +14,8 @@ use say::up_to;
 // One place more than the longest question has, a letter, a space and 132,400 digits: a line that fills it is none.
 const LINE: usize = 132403;
 
-// What a line asks about: a letter's kind, or one of five words; or it is no question.
-enum Asked {
-    Letter(u8),
-    Walk,
-    Index,
-    Find,
-    WalkIndexed,
-    Join,
-    Same,
-    Channel,
-    Unit,
-    Ported,
-    Entry,
-    Answer,
-    Nothing,
-}
-
-// What a line asks about, and the place of its digits.
-struct Question {
-    asked: Asked,
-    at: usize,
-}
+// The place of a question's digits.
+const DIGITS: usize = 2;
 
 fn digit(c: u8) -> u8 {
     match c {
@@ -48,18 +26,18 @@ fn digit(c: u8) -> u8 {
 }
 
 // Puts the bytes that a line's digits spell at its start, where none of them is read any more; false where they spell none.
-fn decode(line: &mut [u8], filled: usize, at: usize) -> bool {
+fn decode(line: &mut [u8], filled: usize) -> bool {
     if line.len() <= filled {
         return false;
     }
-    let digits = from_place(up_to(line, filled), at).len();
+    let digits = from_place(up_to(line, filled), DIGITS).len();
     if digits % 2 != 0 {
         return false;
     }
     let mut i = 0;
     while i < digits / 2 {
-        let high = digit(field::byte_at(from_place(line, at), 2 * i));
-        let low = digit(field::byte_at(from_place(line, at), 2 * i + 1));
+        let high = digit(field::byte_at(from_place(line, DIGITS), 2 * i));
+        let low = digit(field::byte_at(from_place(line, DIGITS), 2 * i + 1));
         if 16 <= high {
             return false;
         }
@@ -81,20 +59,6 @@ fn put(out: &mut [u8], at: usize, b: u8) -> usize {
     at
 }
 
-fn starts_with(line: &[u8], word: &[u8]) -> bool {
-    if line.len() < word.len() {
-        return false;
-    }
-    let mut i = 0;
-    while i < word.len() {
-        if field::byte_at(line, i) != field::byte_at(word, i) {
-            return false;
-        }
-        i += 1;
-    }
-    true
-}
-
 pub(crate) fn from_place(line: &[u8], at: usize) -> &[u8] {
     if at <= line.len() {
         return &line[at..];
@@ -102,81 +66,28 @@ pub(crate) fn from_place(line: &[u8], at: usize) -> &[u8] {
     &line[..0]
 }
 
-fn question_in(line: &[u8]) -> Question {
-    if field::byte_at(line, 1) == b' ' {
-        let letter = field::byte_at(line, 0);
-        let asked = match letter {
-            b'w' => Asked::Walk,
-            b'I' => Asked::Index,
-            b'F' => Asked::Find,
-            b'X' => Asked::WalkIndexed,
-            b'J' => Asked::Join,
-            b'=' => Asked::Same,
-            _ => Asked::Letter(letter),
-        };
-        return Question { asked, at: 2 };
-    }
-    if starts_with(line, b"channel ") {
-        return Question {
-            asked: Asked::Channel,
-            at: 8,
-        };
-    }
-    if starts_with(line, b"unit ") {
-        return Question {
-            asked: Asked::Unit,
-            at: 5,
-        };
-    }
-    if starts_with(line, b"ported ") {
-        return Question {
-            asked: Asked::Ported,
-            at: 7,
-        };
-    }
-    if starts_with(line, b"entry ") {
-        return Question {
-            asked: Asked::Entry,
-            at: 6,
-        };
-    }
-    if starts_with(line, b"answer ") {
-        return Question {
-            asked: Asked::Answer,
-            at: 7,
-        };
-    }
-    Question {
-        asked: Asked::Nothing,
-        at: 0,
-    }
-}
-
-fn answer_to(asked: Asked, data: &[u8]) {
-    match asked {
-        Asked::Letter(letter) => flats::ask(letter, data),
-        Asked::Walk => walks::walk(data),
-        Asked::Index => indexes::index(data),
-        Asked::Find => indexes::find(data),
-        Asked::WalkIndexed => indexes::walk(data),
-        Asked::Join => parts::join(data),
-        Asked::Same => sames::same(data),
-        Asked::Channel => words::channel(data),
-        Asked::Unit => words::unit(data),
-        Asked::Ported => words::ported(data),
-        Asked::Entry => parsers::entry(data),
-        Asked::Answer => parsers::answer(data),
-        Asked::Nothing => say(b"?"),
+fn answer_to(letter: u8, data: &[u8]) {
+    match letter {
+        b'w' => walks::walk(data),
+        b'I' => indexes::index(data),
+        b'F' => indexes::find(data),
+        b'X' => indexes::walk(data),
+        b'J' => parts::join(data),
+        b'=' => sames::same(data),
+        _ => flats::ask(letter, data),
     }
 }
 
 fn answer_line(line: &mut [u8], filled: usize) {
-    let question = question_in(up_to(line, filled));
-    let asked = question.asked;
-    let at = question.at;
-    if decode(line, filled, at) {
-        let n = from_place(up_to(line, filled), at).len() / 2;
-        answer_to(asked, up_to(line, n));
+    let letter = field::byte_at(line, 0);
+    let space = field::byte_at(up_to(line, filled), 1);
+    if space != b' ' {
+        say(b"?");
+        return;
+    }
+    if decode(line, filled) {
+        let n = from_place(up_to(line, filled), DIGITS).len() / 2;
+        answer_to(letter, up_to(line, n));
         return;
     }
     say(b"?");

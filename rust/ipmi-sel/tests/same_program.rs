@@ -268,5 +268,6 @@ fn channels_and_units_become_the_originals() {
         assert_eq!(ipmi_sel::connection::Channel::new(number).map(Channel::from), Channel::new(number));
         let unit = ipmi_sel::connection::LogicalUnit::from_low_bits(number);
         assert_eq!(LogicalUnit::from(unit), LogicalUnit::from_low_bits(number));
+        assert_eq!(ipmi_sel::connection::LogicalUnit::try_from(number).map(LogicalUnit::from), LogicalUnit::try_from(number));
     }
 }

@@ -7,10 +7,10 @@ use Rattle.replay.proofs.decode.Statement.{statement}
 use Rattle.replay.proofs.decode.Tie as tie
 
 abbrev Inv-loop : tie.InvT-loop
-Inv-loop line₀ filled at digits i₀ line i = (2 * i ≤ digits) × (length line ≡ length line₀)
+Inv-loop line₀ filled digits i₀ line i = (2 * i ≤ digits) × (length line ≡ length line₀)
 
 abbrev μ-loop : tie.MeasureT-loop
-μ-loop line₀ filled at digits i₀ line i = digits - i
+μ-loop line₀ filled digits i₀ line i = digits - i
 
 pub decode-spec : {M : Type 1} → statement M
 decode-spec =

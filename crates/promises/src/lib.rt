@@ -1,7 +1,6 @@
-// What the claims speak of: each function that a user calls is called here, under the promise that the sentences of specs/ start from. So a contract
+// What the claims speak of: each function that a user calls is called here, under the promise that the sentences of `claims` start from. So a contract
 // below that comes to promise less is refused here.
 pub mod captures;
-pub mod library;
 pub mod parsers;
 pub mod parts;
 pub mod writers;

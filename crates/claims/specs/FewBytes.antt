@@ -35,8 +35,8 @@ pub record FewBytes : Type 0 where
   pub unasked : (g : GetEntryPart) (out left : List ℕ) (r : PartAnswer) → Requests g out r left → (partNumber r .number ≡ 0 → ⊥) → left ≡ out
   -- the request of 00h and FFh stays for whole reads
   pub stays : (reservation : ReservationId) (id : RecordId) → entryRequest reservation id ≡ entryPayload reservation id 0x00 0xFF
-  -- for m from 1 on the reads cover the sixteen bytes in order, with no gap and no overlap, each of the smaller of m and 16, the last of what is left; no
-  -- list of reads of 1 to m bytes that covers the record is shorter
+  -- for m from 1 on the reads cover the sixteen bytes in order, with no gap and no overlap, each of the smaller of m and 16, the last of what is left, and
+  -- no other list does; no list of reads of 1 to m bytes that covers the record is shorter
   pub reads : (m : ℕ) → 1 ≤ m → RightReads m
   -- they are listed: 13 exactly for m of 0, then 4 with twice the reads, and else offset and count of each; a refusal leaves the output as it was
   pub list : (m : ℕ) (out left : List ℕ) (r : ReadsAnswer) → Lists m out r left → Rows (readsNumber r) (ReadsRow m out)

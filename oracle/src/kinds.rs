@@ -3,7 +3,6 @@
 use std::fmt;
 use std::num::NonZeroU16;
 
-use ipmi_rs_core::app::get_entry::GetEntry;
 use ipmi_rs_core::connection::{IpmiCommand, Message};
 use ipmi_rs_core::storage::sdr::{decode_event, EventData, EventData2Type, EventData3Type, SensorType};
 use ipmi_rs_core::storage::sel::{
@@ -11,16 +10,15 @@ use ipmi_rs_core::storage::sel::{
     ParseEntryError, RecordId, ReserveSel, SelCommand, SelGetAllocInfo,
 };
 use ipmi_rs_core::storage::Timestamp;
-use nonmax::NonMaxU8;
 
 const NOT_ENOUGH_DATA: &str = "1";
 
-fn hex(bytes: &[u8]) -> String {
+pub fn hex(bytes: &[u8]) -> String {
     bytes.iter().map(|byte| format!("{byte:02X}")).collect()
 }
 
 /// Accepted, with flat bytes or a text; nothing but the number for an empty one.
-fn accepted(what: &str) -> String {
+pub fn accepted(what: &str) -> String {
     if what.is_empty() {
         "0".into()
     } else {
@@ -253,7 +251,7 @@ pub fn time_text(time: [u8; 4]) -> String {
 }
 
 /// An id as it stands in a message. `new` turns two away, which have names.
-fn any_id(id: u16) -> RecordId {
+pub fn any_id(id: u16) -> RecordId {
     match id {
         0x0000 => RecordId::FIRST,
         0xFFFF => RecordId::LAST,
@@ -284,13 +282,4 @@ pub fn request(question: &[u8]) -> Option<String> {
         _ => return None,
     };
     Some(accepted(&hex(message.data())))
-}
-
-/// The original has no room to lend, and refuses nothing: FFh is no number of
-/// bytes there, and asks for all.
-pub fn partial_request([_room, low, high, id_low, id_high, offset, count]: [u8; 7]) -> String {
-    let reservation = NonZeroU16::new(u16::from_le_bytes([low, high]));
-    let id = any_id(u16::from_le_bytes([id_low, id_high]));
-    let message: Message = GetEntry::new(reservation, id).partial(offset, NonMaxU8::new(count)).into();
-    accepted(&hex(message.data()))
 }

@@ -4,6 +4,7 @@
 //! stand-ins), and writes down what they say.
 
 mod kinds;
+mod parts;
 
 use std::io::{self, BufRead, Write};
 use std::panic;
@@ -33,7 +34,7 @@ fn answer(question: &str) -> Option<String> {
         "t" => kinds::time_text(bytes.try_into().ok()?),
         "n" => kinds::record_id(bytes.try_into().ok()?),
         "q" => kinds::request(&bytes)?,
-        "Q" => kinds::partial_request(bytes.try_into().ok()?),
+        "Q" => parts::request(bytes.try_into().ok()?),
         _ => return None,
     })
 }

@@ -297,6 +297,8 @@ typedef struct SelJoined {
  * 13 where m is 0; then 16 where got is 16 or more, an answer after the last; then 1, with two more than the read has,
  * for a shorter answer, and 8 for a longer one; then 15 where got is not 0 and the answer has another next id than
  * next; then 4 with 16. A refused answer leaves all as it was, so that another one can be handed in for the same read.
+ * An answer does not say which read it is the answer to: one that is handed in twice is taken for the next where its
+ * length is due, so an answer that came twice must be told apart before.
  * So the answers to the reads of sel_reads, each the bytes of its read behind one next id, join to the record and that
  * id, whatever is refused in between; and wherever got has come from 0 to 16 with one m and in the same bytes, the
  * answers taken were those, of the record and the next id that are there. Then next, the lower byte first, and the 16

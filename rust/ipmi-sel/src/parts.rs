@@ -74,7 +74,8 @@ impl Joining {
     }
 
     /// Takes the answer to the next read, without its completion code: the next id, which must be that of the answers before it, and exactly the
-    /// bytes of the read. A refused answer leaves the joining as it was, so that another one can be handed in for the same read.
+    /// bytes of the read. A refused answer leaves the joining as it was, so that another one can be handed in for the same read. An answer does not
+    /// say which read it is the answer to: one that is handed in twice is taken for the next where its length is due.
     ///
     /// In this order: [`PartError::NoBytes`] where `m` is 0, [`PartError::NoSuchPart`] after the last read, [`PartError::TooShort`] or
     /// [`PartError::TooLong`] by its length, and [`PartError::NextDiffers`].

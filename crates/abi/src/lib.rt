@@ -1,4 +1,6 @@
 // The library for programs in other languages: numbers and lent slices in, numbers out. No function asks anything of its caller.
+#![tactic(auto)]
+
 mod connections;
 mod events;
 mod indexes;

@@ -60,11 +60,11 @@ use Rattle.flat.proofs.Counts.{flat_counts}
 use Rattle.flat.proofs.Rows.{exactly, flat_rows, too_long, decides as decides-flat, turned as turned_away_lem}
 use Rattle.slot_line.specs.Input.{judge_input, slots_of}
 use Rattle.slot_line.specs.declared.Judged.{Judged}
-use Rattle.log.specs.Closing.{number_of as logNumber}
-use Rattle.log.specs.Log.{Logged, closing_by, closing_of, left_by}
-use Rattle.log.specs.Verdict.{settled_of}
-use Rattle.log.specs.declared.Closing.{Closing}
-use Rattle.log.specs.declared.Settled.{Settled}
+use Rattle.sel_log.specs.Closing.{number_of as logNumber}
+use Rattle.sel_log.specs.Log.{Logged, closing_by, closing_of, left_by}
+use Rattle.sel_log.specs.Verdict.{settled_of}
+use Rattle.sel_log.specs.declared.Closing.{Closing}
+use Rattle.sel_log.specs.declared.Settled.{Settled}
 use Rattle.claims.specs.Demand1.{Demand1, OneOf, Valid}
 use Rattle.promises.specs.Promises.{Promised}
 use Rattle.claims.proofs.Lines.{bad_carries_lem, bad_line_lem, good_lines_lem, too_many_lem}

@@ -29,9 +29,9 @@ use Rattle.flat.specs.declared.Question.{Question}
 use Rattle.slot_line.specs.Input.{input_hands, judge_input, line_form, lines, number_of as inputNumber}
 use Rattle.slot_line.specs.Line.{fits}
 use Rattle.slot_line.specs.declared.Judged.{Judged}
-use Rattle.log.specs.Closing.{number_of as logNumber}
-use Rattle.log.specs.Log.{Logged}
-use Rattle.log.specs.declared.Closing.{Closing}
+use Rattle.sel_log.specs.Closing.{number_of as logNumber}
+use Rattle.sel_log.specs.Log.{Logged}
+use Rattle.sel_log.specs.declared.Closing.{Closing}
 use Rattle.promises.specs.Promises.{Promised}
 
 -- 0h to Bh, Eh and Fh

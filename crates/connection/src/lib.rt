@@ -1,4 +1,6 @@
 // Channels and logical units. After src/connection/mod.rs of ipmi-rs-core 0.6.0, changed: docs/SCOPE.md has the rules.
+#![tactic(auto)]
+
 ghost use Rattle.std.specs.Prelude.{◌≡◌};
 ghost use Rattle.field.specs.Handed.{Answers};
 ghost use Rattle.connection.specs.Channel.{channel_at, channel_hands, channel_number, channel_of, number_of, valid_channel};

@@ -1,5 +1,7 @@
 // Bytes and little-endian numbers at a place of a slice. Each reader is total: a byte past the end is 0. And the lengths of answers, and
 // the numbers of refusals.
+#![tactic(auto)]
+
 pub mod lengths;
 pub mod numbers;
 

@@ -1,4 +1,6 @@
 // The flat form by a letter: bytes are decoded and written, or refused, and a refusal changes nothing.
+#![tactic(auto)]
+
 mod lengths;
 mod requests;
 mod texts;

@@ -1,4 +1,6 @@
 // The flat form of Platform Event Messages: the record of one, and the message of a record.
+#![tactic(auto)]
+
 ghost use Rattle.flat_form.specs.Form.{Gives};
 ghost use Rattle.flat_events.specs.Events.{beside_of, message_flat, record_flat};
 

@@ -1,4 +1,6 @@
 // The flat form: one form of bytes for each decoded answer, what its writer answers, and the numbers in it, which are little-endian.
+#![tactic(auto)]
+
 ghost use Rattle.std.specs.Prelude.{◌≡◌, ◌+◌, ◌≤◌, length, [], ◌∷◌};
 ghost use Rattle.field.specs.Bits.{le_bytes};
 ghost use Rattle.field.specs.Handed.{handed, no_reservation, no_room, ported, short, too_long};

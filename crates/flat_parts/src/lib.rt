@@ -1,4 +1,6 @@
 // The flat form of the list of reads, and of the request for a part of a record.
+#![tactic(auto)]
+
 ghost use Rattle.flat_form.specs.Form.{Gives};
 ghost use Rattle.flat_parts.specs.Parts.{part_flat, part_of, reads_flat};
 

@@ -1,5 +1,7 @@
 // Answers questions in the flat form: one a line of standard input, one line of answer each. `stdin` and `stdout` are made by oracle/make.
 // A question is a letter, a space and digits; most letters are asked of `flat`, which C and Rust call too.
+#![tactic(auto)]
+
 mod events;
 mod flats;
 mod indexes;

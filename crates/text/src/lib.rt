@@ -1,5 +1,7 @@
 // Texts in a lent output: part after part at a place that moves on, and a whole text, or a refusal.
 // The part writers, `put` and `put_..`, stand in for `fmt::Formatter`: only proved code can call them, since they require room.
+#![tactic(auto)]
+
 ghost use Rattle.std.specs.Prelude.{◌≡◌, [], ◌∷◌, ◌++◌, ◌<◌, ◌+◌, ◌*◌, ◌≤◌, length};
 ghost use Rattle.text.specs.Numbers.{decimal, digit_of, hex, hex_bytes, last_two};
 ghost use Rattle.text.specs.Text.{Put};
@@ -30,8 +32,9 @@ pub fn put(text: &[u8], out: &mut [u8], at: usize) -> usize
     requires { at + length text.now ≤ length out.old }
     ensures { Put out.old out.new at result text.now }
 {
-    let n = bytes::copy(text, &mut out[at..]);
-    at + n
+    let next = at + text.len();
+    out[at..next].copy_from_slice(text);
+    next
 }
 
 pub fn put_byte(b: u8, out: &mut [u8], at: usize) -> usize

@@ -1,15 +1,14 @@
 -- The laws of texts in an output: once for every writer. Assumes nothing.
 use mathlib.Core.Path.{◌≡◌, refl, ◌∙◌, ap, sym, subst}
-use mathlib.Core.List.{List, [], ◌∷◌, ◌++◌, append_assoc, append-nil}
+use mathlib.Core.List.{List, [], ◌∷◌, ◌++◌, append_assoc}
 use Prim.Native.Nat.{ℕ, suc, ◌+◌, ◌-◌, ◌<◌, ◌≤◌}
 use native.Mathlib.Nat.{zero-add, add_assoc}
 use native.Mathlib.Numerals.{add-one}
 use native.Mathlib.Omega.{arith}
 use borrow.Author.Tests.{le-leb, lt-leb}
-use lib.ListN.{length, take, drop, set, length-append, length-drop, drop_of_length-le}
-use lib.Seq.{take_at, take-length, drop-append-add, drop-drop, length-take-le, set_split, append_snoc, paste-zero}
+use lib.ListN.{length, take, drop, set, length-append, length-drop}
+use lib.Seq.{take_at, drop-append-add, drop-drop, length-take-le, set_split, append_snoc, paste-zero}
 use Rattle.field.specs.Placed.{placed}
-use Rattle.field.proofs.Parts.{tail_is}
 use Rattle.text.specs.Text.{Put, PutWithin}
 use Rattle.text.specs.Written.{Wrote}
 use Rattle.text.specs.declared.Written.{Written}
@@ -86,24 +85,18 @@ one out at b h =
       holds = set_split out at b (omega arith) ∙ sym (append_snoc (take at out) b (drop (suc at) out)) ∙ rw add-one;
     }
 
--- a text, by a copy to the start of the part from `at` on
-pub copied : (out text : List ℕ) (at : ℕ) {n : ℕ} {part : List ℕ} → at + length text ≤ length out → n ≡ length text
-    → part ≡ take (length text) text ++ drop (length text) (take (length out - at) (drop at out))
-    → Put out (take at out ++ (part ++ drop (length out - at) (drop at out))) at (at + n) text
+-- a text, by a copy over the part from `at` to `next`
+pub copied : (out text part : List ℕ) (at next : ℕ) → at + length text ≤ length out → next ≡ at + length text → part ≡ text
+    → Put out (take at out ++ (part ++ drop (next - at) (drop at out))) at next text
 unfolding placed
-copied out text at h e p =
-    let rest = drop (at + length text) out in
-    let kept : drop (length text) (take (length out - at) (drop at out)) ≡ rest =
-    ap (drop (length text)) (tail_is out at) ∙ drop-drop (length text) at out
-    in
+copied out text part at next h e p =
+    let n : next - at ≡ length text = omega arith in
     record {
-      ends = ap (λ k. at + k) e;
+      ends = e;
       fits = h;
       holds =
-          ap (λ l. take at out ++ (l ++ drop (length out - at) (drop at out))) (p ∙ ap (λ l. l ++ drop (length text) (take (length out - at) (drop at out))) (take-length text) ∙ ap (λ l. text ++ l) kept)
-          ∙ ap (λ l. take at out ++ ((text ++ rest) ++ l)) (drop_of_length-le (drop at out) {i = length out - at} (omega (arith, length-drop at out)))
-          ∙ ap (λ l. take at out ++ l) (append-nil (text ++ rest))
-          ∙ sym (append_assoc (take at out) text rest);
+          simp (p, n, append_assoc)
+          (ap (λ l. take at out ++ (text ++ l)) (drop-drop (length text) at out));
     }
 
 -- what an answer says: of what is left of the output, of the room, and of the length

@@ -1,13 +1,11 @@
+-- `text::put_hex1` meets its contract. Assumes nothing.
 use Prim.Native.Nat.{◌%◌}
 use mathlib.Core.Path.{◌≡◌}
-use borrow.Author.Rules.{rules}
 use Rattle.text.specs.Numbers.{digit_of}
 use Rattle.text.proofs.put_hex1.Goals as goal
 
--- `text::put_hex1` meets its contract. Assumes nothing.
 pub returns : goal.returns
 returns c =
     let digit = c.digit in
     let low : digit.result ≡ digit_of (c.args.b % 16) = digit.ensures in
     rw (← low) c.put_byte.ensures
-

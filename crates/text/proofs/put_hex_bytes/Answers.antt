@@ -1,16 +1,11 @@
-use Prim.Native.Nat.{◌-◌, ◌≤◌}
+-- `text::put_hex_bytes` meets its contract: before byte i, the first i bytes have been put. Assumes nothing.
 use native.Mathlib.Numerals.{add-one}
 use native.Mathlib.Omega.{arith}
-use borrow.Author.Rules.{rules}
-use lib.ListN.{length, take}
 use lib.Seq.{take_all}
-use Rattle.text.specs.Numbers.{hex_bytes}
-use Rattle.text.specs.Text.{Put}
 use Rattle.text.proofs.HexBytes.{hex_next, hex_so_far}
 use Rattle.text.proofs.Writes.{◌then◌, nothing, put_length}
 use Rattle.text.proofs.put_hex_bytes.Goals as goal
 
--- `text::put_hex_bytes` meets its contract: before byte i, the first i bytes have been put. Assumes nothing.
 pub loop-i-init : goal.loop-i-init
 loop-i-init c = (omega arith, nothing _ _ (omega arith))
 
@@ -30,7 +25,3 @@ returns c =
     let l = c.loop-i in
     let whole = take_all l.i c.args.«data».now c.loop-i-test.false in
     rw whole at l.invariant.1
-
--- no goal for same-length: was
--- same_length : tie.Need-same-length invariant-loop decreases-loop
--- same_length c = put_length c.before.loop.invariant.1

@@ -23,6 +23,7 @@ pub enum NewVersion {
 
 impl Version {
     // By the number that Get Device ID gives it. That of Get SEL Info is another: it is 51h under 2.0 too.
+    #[tactic(auto, unfolding(crate::specs::Version::version_of))]
     pub fn from_byte(value: u8) -> NewVersion
         ensures { result ≡ version_of value }
     {
@@ -65,6 +66,7 @@ pub enum NewChannel {
 }
 
 // Whether a number names a channel, where the numbered ones end at `last`: the one test of it.
+#[tactic(auto, unfolding(crate::specs::Version::valid_to))]
 pub fn is_channel_to(last: u8, value: u8) -> bool
     ensures { result ≡ valid_to last value }
 {
@@ -94,6 +96,7 @@ impl Channel {
     }
 
     // The channel that a valid number names.
+    #[tactic(auto, unfolding(crate::specs::Channel::channel_at))]
     fn named(value: u8) -> Channel
         ensures { result ≡ channel_at value }
     {
@@ -135,6 +138,7 @@ pub enum NewUnit {
 
 impl LogicalUnit {
     // The unit in the two lowest bits; the others are not looked at.
+    #[tactic(auto, unfolding(crate::specs::Unit::unit_of))]
     pub fn from_low_bits(value: u8) -> LogicalUnit
         ensures { result ≡ unit_of value }
     {
@@ -147,6 +151,7 @@ impl LogicalUnit {
         }
     }
 
+    #[tactic(auto, unfolding(crate::specs::Unit::unit_named))]
     pub fn new(value: u8) -> NewUnit
         ensures { result ≡ unit_named value }
     {

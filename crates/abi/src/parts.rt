@@ -9,7 +9,7 @@ use partial::Joining;
 
 // The number, and what it carries; the next id and how many bytes of the record are there.
 #[repr(C)]
-#[derive(Drop)]
+#[derive(Clone, Copy)]
 pub struct SelJoined {
     pub number: u32,
     pub value: u32,

@@ -9,7 +9,7 @@ use sel::ParseEntryError;
 
 // The number of the refusal and what it carries, both 0 where none is; 1 where the entries are equal; the record that is refused, 1 or 2.
 #[repr(C)]
-#[derive(Drop)]
+#[derive(Clone, Copy)]
 pub struct SelSame {
     pub number: u32,
     pub value: u32,

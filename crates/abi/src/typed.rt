@@ -7,7 +7,7 @@ use typed_data::TypedData;
 
 // The offset, and then kind and value of the second byte, and of the third.
 #[repr(C)]
-#[derive(Drop)]
+#[derive(Clone, Copy)]
 pub struct SelTypedData {
     pub offset: u8,
     pub kind2: u8,

@@ -10,7 +10,7 @@ use ids::RecordId;
 
 // 1 and the slot's number, or 0 and 0.
 #[repr(C)]
-#[derive(Drop)]
+#[derive(Clone, Copy)]
 pub struct SelFound {
     pub found: usize,
     pub slot: usize,
@@ -18,7 +18,7 @@ pub struct SelFound {
 
 // The number; the verdict: 0 ended, 1 missing, 2 spent, 3 circle; the id asked in vain or next to ask, the slots found, the places needed.
 #[repr(C)]
-#[derive(Drop)]
+#[derive(Clone, Copy)]
 pub struct SelWalk {
     pub number: u32,
     pub verdict: u16,

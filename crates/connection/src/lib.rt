@@ -8,14 +8,14 @@ ghost use Rattle.connection.specs.Unit.{unit_named, unit_number, unit_of};
 ghost use Rattle.connection.specs.Version.{last_numbered, valid_in, valid_to, version_of};
 
 // The versions of the standard that are told apart: they differ in the valid channels.
-#[derive(Drop)]
+#[derive(Clone, Copy)]
 pub enum Version {
     V1_5,
     V2_0,
 }
 
 // What `Version::from_byte` answers.
-#[derive(Drop)]
+#[derive(Clone, Copy)]
 pub enum NewVersion {
     Named(Version),
     Unnamed,
@@ -46,11 +46,11 @@ impl Version {
 }
 
 // The number of a numbered channel, 1h to Bh.
-#[derive(Drop)]
+#[derive(Clone, Copy)]
 pub struct ChannelNumber(u8);
 
 // The channel on which a module or sensor is present.
-#[derive(Drop)]
+#[derive(Clone, Copy)]
 pub enum Channel {
     Primary,
     Numbered(ChannelNumber),
@@ -59,7 +59,7 @@ pub enum Channel {
 }
 
 // What `Channel::new` answers.
-#[derive(Drop)]
+#[derive(Clone, Copy)]
 pub enum NewChannel {
     Valid(Channel),
     Invalid(u8),
@@ -121,7 +121,7 @@ impl Channel {
 }
 
 // The logical unit of a module or sensor.
-#[derive(Drop)]
+#[derive(Clone, Copy)]
 pub enum LogicalUnit {
     Zero,
     One,
@@ -130,7 +130,7 @@ pub enum LogicalUnit {
 }
 
 // What `LogicalUnit::new` answers.
-#[derive(Drop)]
+#[derive(Clone, Copy)]
 pub enum NewUnit {
     Valid(LogicalUnit),
     Invalid,

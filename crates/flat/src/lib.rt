@@ -17,7 +17,7 @@ pub use lengths::length_of;
 pub use requests::requested;
 
 // What the bytes of a question are read as.
-#[derive(Drop)]
+#[derive(Clone, Copy)]
 pub enum Kind {
     // An answer to a command, or a record.
     Answer(AnswerKind),
@@ -26,7 +26,7 @@ pub enum Kind {
 }
 
 // What is no answer by itself.
-#[derive(Drop)]
+#[derive(Clone, Copy)]
 pub enum Question {
     // A record, for its event's text.
     EntryText,

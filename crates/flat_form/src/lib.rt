@@ -12,7 +12,7 @@ use text::Written;
 
 // What the writer of a flat form answers: the number, and what it carries: 0 the bytes written, 4 those needed, a refusal its value.
 #[repr(C)]
-#[derive(Drop)]
+#[derive(Clone, Copy)]
 pub struct SelAnswer {
     pub number: u32,
     pub value: usize,

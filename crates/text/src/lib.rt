@@ -8,7 +8,7 @@ ghost use Rattle.text.specs.Text.{Put};
 ghost use Rattle.text.specs.Written.{Wrote};
 
 // What the writer of a text answers.
-#[derive(Drop)]
+#[derive(Clone, Copy)]
 pub enum Written {
     // The length of the text, which is written.
     Length(usize),

@@ -1,6 +1,6 @@
 -- The sentences of specs/EventsSay.antt. Assumes nothing.
 use Prim.Native.Nat.{ℕ}
-use mathlib.Core.Path.{◌≡◌, refl, sym, ap, ◌∙◌}
+use mathlib.Core.Path.{refl, sym, ap, ◌∙◌}
 use mathlib.Core.List.{List}
 use Rattle.field.specs.Handed.{invalid_channel, short, too_long, unknown_type}
 use Rattle.field.specs.Lengths.{entry_bytes}

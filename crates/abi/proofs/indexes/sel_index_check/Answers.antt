@@ -1,14 +1,13 @@
+-- `sel_index_check` meets its contract. Assumes nothing.
+-- the capture's length is sound
 use mathlib.Core.Path.{◌≡◌, sym, ◌∙◌}
 use mathlib.Core.Bool.{false}
 use lib.ListN.{length}
 use Rattle.capture.specs.Length.{bad_length}
 use Rattle.capture.proofs.Length.{told}
 use Rattle.abi.proofs.Indexing.{is_bad, is_right, is_wrong}
-use borrow.Author.Rules.{rules}
 use Rattle.abi.proofs.indexes.sel_index_check.Goals as goal
 
--- `sel_index_check` meets its contract. Assumes nothing.
--- the capture's length is sound
 pub returns-in_default : goal.returns-in_default
 returns-in_default c = is_bad _ _ (told _ (sym c.slots_answer.ensures.decoded ∙ c.in_default.is)).0
 
@@ -21,4 +20,3 @@ pub returns : goal.returns
 returns c =
     let sound : bad_length (length c.args.slots.now) ≡ false = (told _ (sym c.slots_answer.ensures.decoded ∙ c.in-MayBeWalked.is)).0 in
     is_wrong _ _ (sound) (sym c.check_index.ensures.answered ∙ c.if-check_index.false)
-

@@ -1,9 +1,8 @@
+-- `sel_walk_indexed` meets its contract. Assumes nothing.
 use mathlib.Core.Path.{refl}
 use Rattle.abi.proofs.Indexing.{counted_few, walks_indexed}
-use borrow.Author.Rules.{rules}
 use Rattle.abi.proofs.indexes.sel_walk_indexed.Goals as goal
 
--- `sel_walk_indexed` meets its contract. Assumes nothing.
 pub in_numbers-requires : goal.in_numbers-requires
 in_numbers-requires c = counted_few _ _ _ _ c.walk_indexed.ensures c.in-Walked.is
 
@@ -12,4 +11,3 @@ returns-in-Walked c = walks_indexed _ _ _ _ c.walk_indexed.ensures c.in-Walked.i
 
 pub returns-in-WrongIndex : goal.returns-in-WrongIndex
 returns-in-WrongIndex c = walks_indexed _ _ _ _ c.walk_indexed.ensures c.in-WrongIndex.is refl
-

@@ -1,9 +1,8 @@
+-- `sel_join` meets its contract. Assumes nothing.
 use native.Mathlib.Omega.{arith}
-use borrow.Author.Rules.{rules}
 use Rattle.abi.proofs.Parting.{got_fits, joins, value_fits}
 use Rattle.abi.proofs.parts.sel_join.Goals as goal
 
--- `sel_join` meets its contract. Assumes nothing.
 pub returns : goal.returns
 returns c =
     joins c.take-joined.ensures c.number.ensures c.value.ensures

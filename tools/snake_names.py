@@ -10,7 +10,7 @@ import re
 import sys
 from pathlib import Path
 
-OWN_PROOF = re.compile(r'/(Proof|Answers|Invariants)\.antt$')
+OWN_PROOF = re.compile(r'/proofs/(?:.*/)?(Proof|Answers|Invariants)\.antt$')
 DECLARED = re.compile(r"(?m)^ *(?:(?:abbrev|unfoldable) )?(?:pub )?([^\s(){}.;,@\"=]+) (?:\{[^}]*\} )*:(?= |$)")
 # a text, a comment, or a token
 PIECES = re.compile(r'"(?:\\.|[^"\\])*"|\{-(?s:.*?)-\}|(?<![^\s(){}.;,@"])--[^\n]*|[^\s(){}.;,@"⌜⌝]+|.|\n')
@@ -35,10 +35,18 @@ def declared(root, folder):
 
 
 def own_names(root):
-    """{old: new}. A lemma that would have the name of a definition gets `_lem`, also one that port.py spelled in snake case before."""
+    """{old: new}; also of what a binder or an `as` names. A lemma that would have the name of a definition gets `_lem`, also one that port.py spelled in snake case before."""
     said, proved = declared(root, 'specs'), declared(root, 'proofs')
     found = {n: snake(n) for n in said | proved if re.search('[A-Z]', n) and '-' not in n}
-    taken = set(found.values()) | said
+    for p in antt_files(root):
+        for x in PIECES.findall(p.read_text()):
+            if re.fullmatch(r'[a-z][A-Za-z0-9_]*', x) and re.search(r'[a-z0-9][A-Z]', x):
+                found.setdefault(x, snake(x))
+    for p in sorted(root.glob('crates/*/src/**/*.rt')):
+        for x in RUST.findall(p.read_text()):
+            if re.fullmatch(r'[a-z][A-Za-z0-9_]*', x) and re.search(r'[a-z0-9][A-Z]', x):
+                found.setdefault(x, snake(x))
+    taken = {found[n] for n in found if n in said | proved} | said
     found.update((n, snake(n) if n in said or snake(n) not in taken else snake(n) + '_lem') for n in said | proved if '-' in n)
     found.update((n, n + '_lem') for n in proved - said if n in set(found.values()) and n in SPELLED_BEFORE)
     return found

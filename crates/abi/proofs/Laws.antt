@@ -8,7 +8,7 @@ use borrow.Author.Tests.{le-leb, lt-leb}
 use Rattle.field.specs.Handed.{Answers, Handed}
 use Rattle.text.specs.Written.{Wrote}
 use Rattle.text.specs.declared.Written.{Written}
-use Rattle.connection.specs.Channel.{channel_hands, channel_number, channel_of, number_of as channelNumberOf, valid_channel}
+use Rattle.connection.specs.Channel.{channel_hands, channel_number, channel_of, number_of as channel_number_of, valid_channel}
 use Rattle.connection.specs.Unit.{unit_named, unit_number}
 use Rattle.connection.specs.declared.Channel.{Channel}
 use Rattle.connection.specs.declared.LogicalUnit.{LogicalUnit}
@@ -41,12 +41,12 @@ fills {a} {b} {c} {store} {starts} {lengths} e p =
     }
 
 -- a channel is told by its number, and so is a number that is none
-module _ (n : ℕ) {a : NewChannel} (p : Answers a (channel_of valid_channel n) channelNumberOf (channel_hands valid_channel n)) where
+module _ (n : ℕ) {a : NewChannel} (p : Answers a (channel_of valid_channel n) channel_number_of (channel_hands valid_channel n)) where
   pub channel_is : {channel : Channel} {v : ℕ} → a ≡ NewChannel.Valid channel → v ≡ channel_number channel → said 0 v ≡ refusal (channel_hands valid_channel n)
-  channel_is e i = rw i (ap refusal (ap channelNumberOf (sym e) ∙ p.numbered))
+  channel_is e i = rw i (ap refusal (ap channel_number_of (sym e) ∙ p.numbered))
 
   pub no_channel : {k : ℕ} → a ≡ NewChannel.Invalid k → said 3 k ≡ refusal (channel_hands valid_channel n)
-  no_channel e = ap refusal (ap channelNumberOf (sym e) ∙ p.numbered)
+  no_channel e = ap refusal (ap channel_number_of (sym e) ∙ p.numbered)
 
 module _ (n : ℕ) {a : NewUnit} (p : a ≡ unit_named n) where
   pub unit_is : {unit : LogicalUnit} {v : ℕ} → a ≡ NewUnit.Valid unit → v ≡ unit_number unit → said 0 v ≡ refusal (unit_hands n)

@@ -20,7 +20,7 @@ use Rattle.answers.proofs.LengthDecides.{decides}
 use Rattle.answers.proofs.Rows.{answer_rows}
 use Rattle.capture.specs.Length.{bad_length, slots_answer, slots_hands}
 use Rattle.capture.specs.Walk.{walk_of}
-use Rattle.capture.specs.Walked.{number_of as walkedNumber}
+use Rattle.capture.specs.Walked.{number_of as walked_number}
 use Rattle.capture.specs.declared.SlotsAnswer.{SlotsAnswer}
 use Rattle.capture.specs.declared.Verdict.{Verdict}
 use Rattle.capture.proofs.SlotsLength.{slots_length}
@@ -126,7 +126,7 @@ length_says letter kind n = record {
         (λ h x e z. (refl, e))
 
 -- the walk's number, in both forms of its answer
-pub walk_number : (v : Verdict) → (walk_answer v).number ≡ (walkedNumber v).number
+pub walk_number : (v : Verdict) → (walk_answer v).number ≡ (walked_number v).number
 walk_number (Verdict.Ended read) = refl
 walk_number (Verdict.Missing ask read) = refl
 walk_number (Verdict.Spent ask read) = refl
@@ -145,7 +145,7 @@ module _ (len : ℕ) where
   slots_else true e z = absurd (z (rw e))
   slots_else false e z = (rw e, rw e)
 
-  walk_says : (s : List ℕ) (b : ℕ) (old left : List ℕ) (r : SelWalk) → Walks s b old r left → r.number ≡ (walkedNumber (walk_of s b (length old))).number
+  walk_says : (s : List ℕ) (b : ℕ) (old left : List ℕ) (r : SelWalk) → Walks s b old r left → r.number ≡ (walked_number (walk_of s b (length old))).number
   walk_says s b old left r w = ap (λ (x : SelWalk). x.number) w.answered ∙ walk_number (walk_of s b (length old))
 
   pub slots_say : SlotsSay len

@@ -16,7 +16,7 @@ ghost use Rattle.flat_form.specs.Form.{Gives, refusal};
 ghost use Rattle.flat_record.specs.Records.{entry_flat, entry_flat_of, get_entry_flat, get_entry_flat_of};
 ghost use Rattle.flat_writer.specs.Kept.{kept_flat, written_kept};
 ghost use Rattle.flat_writer.specs.Written.{written_flat};
-ghost use Rattle.flat_answers.specs.Answers.{allocationFlat};
+ghost use Rattle.flat_answers.specs.Answers.{allocation_flat};
 ghost use Rattle.flat.specs.Kinds.{flat_of};
 ghost use Rattle.flat.specs.Lengths.{length_said};
 ghost use Rattle.flat.specs.Requests.{request_of};
@@ -96,7 +96,7 @@ pub extern "C" fn sel_get_entry_of(version: u8, data: &[u8], out: &mut [u8]) -> 
 // The answer to Get SEL Allocation Info.
 #[unsafe(no_mangle)]
 pub extern "C" fn sel_allocation(data: &[u8], out: &mut [u8]) -> SelAnswer
-    ensures { Gives (allocationFlat «data».now) out.old result out.new }
+    ensures { Gives (allocation_flat «data».now) out.old result out.new }
 {
     flat_answers::allocation(data, out)
 }

@@ -15,7 +15,7 @@ use Rattle.field.specs.Handed.{Handed}
 use Rattle.field.specs.Rows.{LongEnough, Rows, Taken, accepted, long, too_short}
 use Rattle.field.proofs.Choices.{clash, either}
 use Rattle.field.proofs.Rows.{rows_are}
-use Rattle.text.specs.Written.{Wrote, number_of as writtenNumber}
+use Rattle.text.specs.Written.{Wrote, number_of as written_number}
 use Rattle.text.specs.declared.Written.{Written}
 use Rattle.text.proofs.Room.{room}
 use Rattle.connection.specs.Channel.{valid_channel}
@@ -30,14 +30,14 @@ use Rattle.sel_commands.specs.Info.{InfoRow}
 use Rattle.sel_commands.specs.Reserve as Reserve
 use Rattle.sel_commands.specs.Reserve.{ReserveRow}
 use Rattle.answers.specs.Answer.{Answer, number_of}
-use Rattle.answers.specs.Length.{length_answer, length_hands, number_of as lengthNumber}
+use Rattle.answers.specs.Length.{length_answer, length_hands, number_of as length_number}
 use Rattle.answers.specs.Rows.{Row, hands_of}
 use Rattle.answers.specs.declared.AnswerKind.{AnswerKind}
 use Rattle.answers.specs.declared.LengthAnswer.{LengthAnswer}
 use Rattle.answers.proofs.BytesThatCount.{bytes_that_count_lem}
 use Rattle.answers.proofs.LengthDecides.{decides}
 use Rattle.answers.proofs.Rows.{answer_rows}
-use Rattle.capture.specs.Walked.{Walked, number_of as walkNumber}
+use Rattle.capture.specs.Walked.{Walked, number_of as walk_number}
 use Rattle.capture.specs.declared.Verdict.{Verdict}
 use Rattle.capture.proofs.Refusals.{refusals}
 use Rattle.capture.proofs.SlotsLength.{slots_length}
@@ -47,7 +47,7 @@ use Rattle.flat_form.proofs.Laws.{Told, gives_is, short, told, turned, wrote}
 use Rattle.flat_form.proofs.Untouched.{untouched_else}
 use Rattle.flat_record.specs.Event.{event_data_flat, typed_data_flat}
 use Rattle.flat_record.specs.Records.{entry_flat_of, get_entry_flat_of, record_part_flat}
-use Rattle.flat_answers.specs.Answers.{recordIdFlat}
+use Rattle.flat_answers.specs.Answers.{record_id_flat}
 use Rattle.flat.specs.Kinds.{flat_by, flat_of}
 use Rattle.flat.specs.Lengths.{length_flat, length_of, of_answer}
 use Rattle.flat.specs.Letters.{kind_of}
@@ -60,7 +60,7 @@ use Rattle.flat.proofs.Counts.{flat_counts}
 use Rattle.flat.proofs.Rows.{exactly, flat_rows, too_long, decides as decides-flat, turned as turned_away_lem}
 use Rattle.slot_line.specs.Input.{judge_input, slots_of}
 use Rattle.slot_line.specs.declared.Judged.{Judged}
-use Rattle.sel_log.specs.Closing.{number_of as logNumber}
+use Rattle.sel_log.specs.Closing.{number_of as log_number}
 use Rattle.sel_log.specs.Log.{Logged, closing_by, closing_of, left_by}
 use Rattle.sel_log.specs.Verdict.{settled_of}
 use Rattle.sel_log.specs.declared.Closing.{Closing}
@@ -156,7 +156,7 @@ length_not_four : (letter n : ℕ) → NotFour (length_of letter n)
 unfolding decided
 length_not_four letter n = by (kind_of letter)
   where
-    one : (a : LengthAnswer) → (lengthNumber a).number ≡ 4 → ⊥
+    one : (a : LengthAnswer) → (length_number a).number ≡ 4 → ⊥
     one LengthAnswer.MayBeRead e = omega arith
     one (LengthAnswer.NotEnoughData k) e = omega arith
     one LengthAnswer.TooLong e = omega arith
@@ -182,7 +182,7 @@ answer_of_not_four b s =
     either other (not (is_version b)) _ _ (λ e. omega (arith, e)) (either other (ltb (length s) 18) _ _ (λ e. omega (arith, e)) (entry_of_not_four b (drop 2 s)))
 
 not_four : (kind : Kind) (s : List ℕ) → NotFour (flat_by kind s)
-unfolding behind_version entry_flat_of get_entry_flat_of decided length_flat record_part_flat entry_text_flat event_data_flat event_data_text_flat typed_data_flat typed_data_text_flat event_text_flat time_text_flat log_time_text_flat recordIdFlat request_flat
+unfolding behind_version entry_flat_of get_entry_flat_of decided length_flat record_part_flat entry_text_flat event_data_flat event_data_text_flat typed_data_flat typed_data_text_flat event_text_flat time_text_flat log_time_text_flat record_id_flat request_flat
 not_four (Kind.Answer kind) s = subst NotFour (sym ((decides-flat kind).1 s)) (decided_not_four kind s _)
 not_four (Kind.Other Question.EntryText) s = decided_not_four AnswerKind.Entry s _
 not_four (Kind.Other Question.RecordPart) s = tt
@@ -227,24 +227,24 @@ flat_text_lem : (letter : ℕ) → kind_of letter ≡ Kind.Other Question.EntryT
 unfolding entry_text_flat
 flat_text_lem letter k s out left r g = exactly (answer_rows valid_channel AnswerKind.Entry s).rows _ (gives_is (ap (λ (x : Kind). flat_by x s) k) g)
 
-unwritten : (text out left : List ℕ) (r : Written) → Wrote text out r left → ((writtenNumber r).number ≡ 0 → ⊥) → left ≡ out
+unwritten : (text out left : List ℕ) (r : Written) → Wrote text out r left → ((written_number r).number ≡ 0 → ⊥) → left ≡ out
 unwritten text out left r w n = by (dec_le (length text) (length out))
   where
     by : Dec (length text ≤ length out) → left ≡ out
     by (yes h) = absurd (n (((room text out left r).zero w).1 h))
     by (no h) = (room text out left r).untouched w (omega arith)
 
-unlisted : (s : List ℕ) (b : ℕ) (old left : List ℕ) (r : Verdict) → Walked s b old r left → ((walkNumber r).number ≡ 0 → ⊥) → left ≡ old
-unlisted s b old left r w n = w.leaves ∙ (refusals s b old).untouched (λ e. n (ap (λ (v : Verdict). (walkNumber v).number) w.answered ∙ e))
+unlisted : (s : List ℕ) (b : ℕ) (old left : List ℕ) (r : Verdict) → Walked s b old r left → ((walk_number r).number ≡ 0 → ⊥) → left ≡ old
+unlisted s b old left r w n = w.leaves ∙ (refusals s b old).untouched (λ e. n (ap (λ (v : Verdict). (walk_number v).number) w.answered ∙ e))
 
 -- a verdict has the number 0
-walked_zero : (v : Settled) → (logNumber (Closing.Walked v)).number ≡ 0
+walked_zero : (v : Settled) → (log_number (Closing.Walked v)).number ≡ 0
 walked_zero (Settled.Ended read) = refl
 walked_zero (Settled.Missing ask read) = refl
 walked_zero (Settled.Circle read) = refl
 
-module _ (input slots list slotsLeft listLeft : List ℕ) (r : Closing) (l : Logged input slots list r slotsLeft listLeft) (n : (logNumber r).number ≡ 0 → ⊥) where
-  unread_by : (j : Judged) → judge_input input ≡ j → (slotsLeft ≡ slots) × (listLeft ≡ list)
+module _ (input slots list slots_left list_left : List ℕ) (r : Closing) (l : Logged input slots list r slots_left list_left) (n : (log_number r).number ≡ 0 → ⊥) where
+  unread_by : (j : Judged) → judge_input input ≡ j → (slots_left ≡ slots) × (list_left ≡ list)
   unfolding closing_of closing_by left_by
   unread_by (Judged.Slots k) e = absurd (n (ap (λ (x : Handed). x.number) l.numbered ∙ rw e (walked_zero (settled_of (slots_of input)))))
   unread_by (Judged.BadLine k) e = (l.slots ∙ rw e, l.list ∙ rw e)
@@ -270,7 +270,7 @@ demand_1 =
       unwritten = unwritten;
       flat_unwritten = λ question out left r. (untouched_else question out left r).untouched;
       unlisted = unlisted;
-      unread = λ input slots list slotsLeft listLeft r l n. unread_by input slots list slotsLeft listLeft r l n (judge_input input) refl;
+      unread = λ input slots list slots_left list_left r l n. unread_by input slots list slots_left list_left r l n (judge_input input) refl;
       lengths = decides valid_channel;
       slots_lengths = slots_length;
       counts = bytes_that_count_lem valid_channel;

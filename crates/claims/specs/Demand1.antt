@@ -4,7 +4,7 @@ use Rattle.std.specs.Prelude.{ℕ, suc, ◌≤◌, ◌<◌, ◌≡◌, true, fal
 use Rattle.field.specs.Handed.{Answers, Handed, handed}
 use Rattle.field.specs.Rows.{Rows}
 use Rattle.text.specs.Room.{Room}
-use Rattle.text.specs.Written.{Wrote, number_of as writtenNumber}
+use Rattle.text.specs.Written.{Wrote, number_of as written_number}
 use Rattle.text.specs.declared.Written.{Written}
 use Rattle.connection.specs.Channel.{valid_channel}
 use Rattle.answers.specs.Answer.{Answer, number_of}
@@ -16,7 +16,7 @@ use Rattle.answers.specs.declared.AnswerKind.{AnswerKind}
 use Rattle.answers.specs.declared.LengthAnswer.{LengthAnswer}
 use Rattle.capture.specs.Refusals.{Refusals}
 use Rattle.capture.specs.SlotsLength.{SlotsLength}
-use Rattle.capture.specs.Walked.{Walked, number_of as walkNumber}
+use Rattle.capture.specs.Walked.{Walked, number_of as walk_number}
 use Rattle.capture.specs.declared.Verdict.{Verdict}
 use Rattle.flat_form.specs.Form.{Flat, Gives, refusal, said, taken}
 use Rattle.flat_form.specs.declared.SelAnswer.{SelAnswer}
@@ -26,10 +26,10 @@ use Rattle.flat.specs.Letters.{kind_of}
 use Rattle.flat.specs.Rows.{FlatRows}
 use Rattle.flat.specs.declared.Kind.{Kind}
 use Rattle.flat.specs.declared.Question.{Question}
-use Rattle.slot_line.specs.Input.{input_hands, judge_input, line_form, lines, number_of as inputNumber}
+use Rattle.slot_line.specs.Input.{input_hands, judge_input, line_form, lines, number_of as input_number}
 use Rattle.slot_line.specs.Line.{fits}
 use Rattle.slot_line.specs.declared.Judged.{Judged}
-use Rattle.sel_log.specs.Closing.{number_of as logNumber}
+use Rattle.sel_log.specs.Closing.{number_of as log_number}
 use Rattle.sel_log.specs.Log.{Logged}
 use Rattle.sel_log.specs.declared.Closing.{Closing}
 use Rattle.promises.specs.Promises.{Promised}
@@ -83,23 +83,23 @@ pub record Demand1 : Type 0 where
   -- rows 4 and 5 of the walk
   pub walked : (s : List ℕ) (b : ℕ) (old : List ℕ) → Refusals s b old
   -- row 0 of a capture as text: accepted, with the number of its lines, exactly if there are so many, and all are good
-  pub good_lines : (input : List ℕ) (r : Judged) (k : ℕ) → Answers r (judge_input input) inputNumber (input_hands input)
-      → (inputNumber r ≡ handed 0 (k ∷ [])) ↔ AllGood input k
+  pub good_lines : (input : List ℕ) (r : Judged) (k : ℕ) → Answers r (judge_input input) input_number (input_hands input)
+      → (input_number r ≡ handed 0 (k ∷ [])) ↔ AllGood input k
   -- row 6 of it: given exactly if a line is bad that at most 3,000 lines precede, all of them good, with its number, from 1
-  pub bad_line : (input : List ℕ) (r : Judged) (k : ℕ) → Answers r (judge_input input) inputNumber (input_hands input)
-      → (inputNumber r ≡ handed 6 (suc k ∷ [])) ↔ FirstBad input k
+  pub bad_line : (input : List ℕ) (r : Judged) (k : ℕ) → Answers r (judge_input input) input_number (input_hands input)
+      → (input_number r ≡ handed 6 (suc k ∷ [])) ↔ FirstBad input k
   -- and every 6 carries such a line of that input
-  pub bad_carries : (input : List ℕ) (r : Judged) → Answers r (judge_input input) inputNumber (input_hands input)
-      → (inputNumber r).number ≡ 6 → (k : ℕ) × (inputNumber r ≡ handed 6 (suc k ∷ [])) × FirstBad input k
+  pub bad_carries : (input : List ℕ) (r : Judged) → Answers r (judge_input input) input_number (input_hands input)
+      → (input_number r).number ≡ 6 → (k : ℕ) × (input_number r ≡ handed 6 (suc k ∷ [])) × FirstBad input k
   -- row 5 of it: exactly if there are 3,001 lines, and so many are good
-  pub too_many : (input : List ℕ) (r : Judged) → Answers r (judge_input input) inputNumber (input_hands input)
-      → (inputNumber r ≡ handed 5 []) ↔ OneTooMany input
+  pub too_many : (input : List ℕ) (r : Judged) → Answers r (judge_input input) input_number (input_hands input)
+      → (input_number r ≡ handed 5 []) ↔ OneTooMany input
   -- where any of these refuses, every lent output is as it was
-  pub unwritten : (text out left : List ℕ) (r : Written) → Wrote text out r left → ((writtenNumber r).number ≡ 0 → ⊥) → left ≡ out
+  pub unwritten : (text out left : List ℕ) (r : Written) → Wrote text out r left → ((written_number r).number ≡ 0 → ⊥) → left ≡ out
   pub flat_unwritten : (question : Flat) (out left : List ℕ) (r : SelAnswer) → Gives question out r left → (r.number ≡ 0 → ⊥) → left ≡ out
-  pub unlisted : (s : List ℕ) (b : ℕ) (old left : List ℕ) (r : Verdict) → Walked s b old r left → ((walkNumber r).number ≡ 0 → ⊥) → left ≡ old
-  pub unread : (input slots list slotsLeft listLeft : List ℕ) (r : Closing) → Logged input slots list r slotsLeft listLeft
-      → ((logNumber r).number ≡ 0 → ⊥) → (slotsLeft ≡ slots) × (listLeft ≡ list)
+  pub unlisted : (s : List ℕ) (b : ℕ) (old left : List ℕ) (r : Verdict) → Walked s b old r left → ((walk_number r).number ≡ 0 → ⊥) → left ≡ old
+  pub unread : (input slots list slots_left list_left : List ℕ) (r : Closing) → Logged input slots list r slots_left list_left
+      → ((log_number r).number ≡ 0 → ⊥) → (slots_left ≡ slots) × (list_left ≡ list)
   -- what a length alone decides, before there is a byte of the answer (README.md, "Can your library refuse a length ..")
   pub lengths : (kind : AnswerKind) (n : ℕ) → LengthDecides valid_channel kind n
   pub slots_lengths : (len : ℕ) → SlotsLength len

@@ -28,7 +28,7 @@ use Rattle.answers.specs.Length.{length_answer}
 use Rattle.flat_form.specs.Form.{Flat, decided, flat_answer, flat_leaves, no_question, refused, said, taken}
 use Rattle.flat_record.specs.Event.{event_data_flat, typed_data_flat}
 use Rattle.flat_record.specs.Records.{entry_flat_in, entry_flat_of, get_entry_flat_in, get_entry_flat_of, plain_flat, record_flat, record_part_flat, stamped_flat, system_flat}
-use Rattle.flat_answers.specs.Answers.{allocationFlat, clearFlat, idFlat, infoFlat, recordIdFlat, reserveFlat}
+use Rattle.flat_answers.specs.Answers.{allocation_flat, clear_flat, id_flat, info_flat, record_id_flat, reserve_flat}
 use Rattle.flat.specs.Kinds.{flat_of}
 use Rattle.flat.specs.Lengths.{length_flat}
 use Rattle.flat.specs.Letters.{kind_of}
@@ -103,7 +103,7 @@ answers : Right
     -- it names no record, and asks for the last one
     ∷ case "n" (0xFF ∷ 0xFF ∷ []) (taken (0 ∷ 0 ∷ 1 ∷ 0xFF ∷ 0xFF ∷ []))
     ∷ [])
-unfolding kind_of decided infoFlat parse_info how_many allocationFlat parse_alloc reserveFlat parse_reserve clearFlat parse_clear recordIdFlat idFlat
+unfolding kind_of decided info_flat parse_info how_many allocation_flat parse_alloc reserve_flat parse_reserve clear_flat parse_clear record_id_flat id_flat
 answers = refl
 
 -- offset 9, a reading of 5Ah, an OEM code of 55h; two bytes; texts; a letter that names no kind

@@ -21,7 +21,7 @@ use Rattle.flat_form.specs.declared.SelAnswer.{SelAnswer}
 use Rattle.flat_form.proofs.Laws.{gives_is}
 use Rattle.flat_form.proofs.Untouched.{untouched_else}
 use Rattle.flat_record.specs.Records.{entry_flat_in, get_entry_flat_in}
-use Rattle.flat_answers.specs.Answers.{allocationFlat, clearFlat, infoFlat, reserveFlat}
+use Rattle.flat_answers.specs.Answers.{allocation_flat, clear_flat, info_flat, reserve_flat}
 use Rattle.flat.specs.Kinds.{answer_flat, flat_by, flat_of}
 use Rattle.flat.specs.Letters.{kind_of}
 use Rattle.flat.specs.Rows.{Asked, FlatRows}
@@ -29,7 +29,7 @@ use Rattle.flat.specs.declared.Kind.{Kind}
 
 -- each kind of answer is decided by its own number, with flat bytes that the kind has of its bytes
 unfoldable pub decides : (kind : AnswerKind) → (flat : List ℕ → List ℕ) × ((s : List ℕ) → answer_flat kind s ≡ decided (hands_of valid_channel kind s) (flat s))
-unfolding entry_flat_in get_entry_flat_in infoFlat allocationFlat reserveFlat clearFlat
+unfolding entry_flat_in get_entry_flat_in info_flat allocation_flat reserve_flat clear_flat
 decides AnswerKind.Entry = (_, λ s. refl)
 decides AnswerKind.GetEntry = (_, λ s. refl)
 decides AnswerKind.Info = (_, λ s. refl)

@@ -31,7 +31,7 @@ use Rattle.flat_form.specs.Form.{Flat, decided, no_question, refused, taken}
 use Rattle.flat_record.specs.Event.{event_data_flat, typed_data_flat}
 use Rattle.flat_record.specs.Records.{entry_flat, entry_flat_in, entry_flat_of, get_entry_flat_in, get_entry_flat_of, plain_flat, record_flat, record_part_flat, stamped_flat}
 use Rattle.flat_record.proofs.Laws.{plain_length, stamped_length, system_length}
-use Rattle.flat_answers.specs.Answers.{allocationFlat, clearFlat, idFlat, infoFlat, recordIdFlat, reserveFlat}
+use Rattle.flat_answers.specs.Answers.{allocation_flat, clear_flat, id_flat, info_flat, record_id_flat, reserve_flat}
 use Rattle.flat.specs.Kinds.{answer_flat, flat_by}
 use Rattle.flat.specs.Lengths.{length_flat, length_of, of_answer}
 use Rattle.flat.specs.Letters.{is_text, kind_of}
@@ -81,8 +81,8 @@ module _ (s : List ℕ) where
   plain_has a =
       decided_has _ _ _ (λ z. rw (ne_eqb (type_at s) 0x02 (λ e. omega arith), le-leb 0xC0 (type_at s) (omega arith), lt-leb (type_at s) 0xDF (omega arith)) (plain_length s (sixteen z)))
 
-  allocation_has : Has (λ l. length l ≡ 9) (allocationFlat s)
-  unfolding allocationFlat
+  allocation_has : Has (λ l. length l ≡ 9) (allocation_flat s)
+  unfolding allocation_flat
   allocation_has = decided_has _ _ _ (λ z. refl)
 
 -- if the question is taken, there are at most so many flat bytes
@@ -112,7 +112,7 @@ request_fits room h command reservation argument =
     tt))
 
 answer_fits : (kind : AnswerKind) (s : List ℕ) → Fits flat_room (answer_flat kind s)
-unfolding entry_flat_in get_entry_flat_in infoFlat allocationFlat reserveFlat clearFlat
+unfolding entry_flat_in get_entry_flat_in info_flat allocation_flat reserve_flat clear_flat
 answer_fits AnswerKind.Entry s = decided_has _ _ _ (λ z. omega (arith, record_short s))
 answer_fits AnswerKind.GetEntry s = decided_has _ _ _ (λ z. omega (arith, record_short (drop 2 s)))
 answer_fits AnswerKind.Info s = decided_has _ _ _ (λ z. omega arith)
@@ -131,7 +131,7 @@ length_fits letter n = by (kind_of letter)
 -- any kind: what is known of the bytes is asked for only where the kind is a text
 module _ (s : List ℕ) where
   kind_fits : (kind : Kind) → (is_text kind ≡ true → Bytes (length s) s) → Fits (if is_text kind then event_room else flat_room) (flat_by kind s)
-  unfolding behind_version entry_flat_of get_entry_flat_of length_flat record_part_flat event_data_flat typed_data_flat typed_data_text_flat recordIdFlat idFlat request_flat entry_text_flat event_data_text_flat event_text_flat time_text_flat log_time_text_flat
+  unfolding behind_version entry_flat_of get_entry_flat_of length_flat record_part_flat event_data_flat typed_data_flat typed_data_text_flat record_id_flat id_flat request_flat entry_text_flat event_data_text_flat event_text_flat time_text_flat log_time_text_flat
   kind_fits (Kind.Answer kind) bs = answer_fits kind s
   kind_fits (Kind.Other Question.EntryText) bs =
       decided_has _ _ _ (λ z. either (λ (l : List ℕ). length l ≤ event_room) (eqb (type_at s) 0x02) _ _ (event_length _ _ _) (omega arith))

@@ -4,7 +4,7 @@ use Rattle.answers.specs.declared.AnswerKind.{AnswerKind}
 use Rattle.flat_form.specs.Form.{Flat, no_question}
 use Rattle.flat_record.specs.Event.{event_data_flat, typed_data_flat}
 use Rattle.flat_record.specs.Records.{entry_flat, entry_flat_of, get_entry_flat, get_entry_flat_of, record_part_flat}
-use Rattle.flat_answers.specs.Answers.{allocationFlat, clearFlat, infoFlat, recordIdFlat, reserveFlat}
+use Rattle.flat_answers.specs.Answers.{allocation_flat, clear_flat, info_flat, record_id_flat, reserve_flat}
 use Rattle.flat.specs.Lengths.{length_flat}
 use Rattle.flat.specs.Letters.{kind_of}
 use Rattle.flat.specs.Requests.{request_flat}
@@ -16,10 +16,10 @@ use Rattle.flat.specs.declared.Question.{Question}
 abbrev pub answer_flat : AnswerKind → List ℕ → Flat
 answer_flat AnswerKind.Entry s = entry_flat s
 answer_flat AnswerKind.GetEntry s = get_entry_flat s
-answer_flat AnswerKind.Info s = infoFlat s
-answer_flat AnswerKind.Allocation s = allocationFlat s
-answer_flat AnswerKind.Reserve s = reserveFlat s
-answer_flat AnswerKind.Clear s = clearFlat s
+answer_flat AnswerKind.Info s = info_flat s
+answer_flat AnswerKind.Allocation s = allocation_flat s
+answer_flat AnswerKind.Reserve s = reserve_flat s
+answer_flat AnswerKind.Clear s = clear_flat s
 
 abbrev pub other_flat : Question → List ℕ → Flat
 other_flat Question.EntryText s = entry_text_flat s
@@ -34,7 +34,7 @@ other_flat Question.Length s = length_flat s
 other_flat Question.EventText s = event_text_flat s
 other_flat Question.TimeText s = time_text_flat s
 other_flat Question.LogTimeText s = log_time_text_flat s
-other_flat Question.RecordId s = recordIdFlat s
+other_flat Question.RecordId s = record_id_flat s
 other_flat Question.Request s = request_flat s
 
 abbrev pub flat_by : Kind → List ℕ → Flat

@@ -10,7 +10,7 @@ use Rattle.event_offset.specs.Event.{event_room, event_text}
 use Rattle.sel.specs.Entry.{type_at}
 use Rattle.flat_form.specs.Form.{taken}
 use Rattle.flat_record.specs.Records.{entry_flat}
-use Rattle.flat_answers.specs.Answers.{allocationFlat}
+use Rattle.flat_answers.specs.Answers.{allocation_flat}
 use Rattle.flat.specs.Kinds.{flat_of}
 use Rattle.flat.specs.Letters.{is_text, kind_of}
 use Rattle.flat.specs.Requests.{request_of}
@@ -32,7 +32,7 @@ pub record Sizes : Type 0 where
   pub stamped : (s flat : List ℕ) → entry_flat s ≡ taken flat → 0xC0 ≤ type_at s → type_at s ≤ 0xDF → length flat ≡ 18
   pub plain : (s flat : List ℕ) → entry_flat s ≡ taken flat → 0xE0 ≤ type_at s → length flat ≡ 17
   -- `sel_allocation`
-  pub allocation : (s flat : List ℕ) → allocationFlat s ≡ taken flat → length flat ≡ 9
+  pub allocation : (s flat : List ℕ) → allocation_flat s ≡ taken flat → length flat ≡ 9
   -- the texts by name, and the payload of a request
   pub event : (event sensor offset : ℕ) → length (event_text event sensor offset) ≤ event_room
   pub event_data : (b1 b2 b3 : ℕ) → b2 < 256 → b3 < 256 → length (data_text (event_data_of (b1 ∷ b2 ∷ b3 ∷ []))) ≤ data_room

@@ -32,13 +32,13 @@ message_numbers (MessageAnswer.Wrote w) = from_written w
 message_numbers (MessageAnswer.TooShort n) = refusal (short n)
 message_numbers (MessageAnswer.OtherType t) = refusal (unknown_type t)
 
-pub in_float : {A B : Type 0} (f : A → B) (b : Beside) (m : List ℕ) (few many noChannel good : A)
-    → f (way_in b m few many noChannel good) ≡ way_in b m (f few) (f many) (f noChannel) (f good)
-in_float {A} {B} f b m few many noChannel good =
+pub in_float : {A B : Type 0} (f : A → B) (b : Beside) (m : List ℕ) (few many no_channel good : A)
+    → f (way_in b m few many no_channel good) ≡ way_in b m (f few) (f many) (f no_channel) (f good)
+in_float {A} {B} f b m few many no_channel good =
     float f (ltb (length m) message_bytes) _ _
     ∙ ap (λ (rest : B). if ltb (length m) message_bytes then f few else rest)
     (float f (ltb message_bytes (length m)) _ _
-    ∙ ap (λ (rest : B). if ltb message_bytes (length m) then f many else rest) (float f (not (valid_channel (channel_beside b))) noChannel good))
+    ∙ ap (λ (rest : B). if ltb message_bytes (length m) then f many else rest) (float f (not (valid_channel (channel_beside b))) no_channel good))
 
 pub out_float : {A B : Type 0} (f : A → B) (s : List ℕ) (few other good : A) → f (way_out s few other good) ≡ way_out s (f few) (f other) (f good)
 out_float {A} {B} f s few other good =

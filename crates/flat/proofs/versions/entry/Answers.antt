@@ -1,0 +1,11 @@
+-- `entry` meets its contract: the first byte names the version, and the rest is the record. Assumes nothing.
+use Rattle.flat_form.proofs.Laws.{gives_is, gives_refusal}
+use Rattle.flat.proofs.FirstByte.{behind, no_byte}
+use Rattle.flat.proofs.versions.entry.Goals as goal
+
+pub returns-then-data-eq0 : goal.returns-then-data-eq0
+returns-then-data-eq0 c = gives_is (no_byte _ _ c.if-data-eq0.true) (gives_refusal c.no_question.ensures)
+
+pub returns : goal.returns
+returns c =
+    gives_is (behind _ _ c.if-data-eq0.false) c.entry_of.ensures

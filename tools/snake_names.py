@@ -10,7 +10,7 @@ import re
 import sys
 from pathlib import Path
 
-OWN_PROOF = re.compile(r'/proofs/(?:.*/)?(Proof|Answers|Invariants)\.antt$')
+OWN_PROOF = re.compile(r'/proofs/.+/(Proof|Answers|Invariants)\.antt$')
 DECLARED = re.compile(r"(?m)^ *(?:(?:abbrev|unfoldable) )?(?:pub )?([^\s(){}.;,@\"=]+) (?:\{[^}]*\} )*:(?= |$)")
 # a text, a comment, or a token
 PIECES = re.compile(r'"(?:\\.|[^"\\])*"|\{-(?s:.*?)-\}|(?<![^\s(){}.;,@"])--[^\n]*|[^\s(){}.;,@"⌜⌝]+|.|\n')

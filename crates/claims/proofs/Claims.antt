@@ -11,7 +11,7 @@ use Rattle.answers.specs.RustAnswers.{as_rust}
 use Rattle.answers.proofs.Ported.{ported_answers}
 use Rattle.answers.proofs.WhatWasShort.{lengths_needed_lem, what_was_short_lem}
 use Rattle.flat_record.proofs.Parsed.{flat_of_parsed}
-use Rattle.flat_writer.proofs.Answers.{flat-answers}
+use Rattle.flat_writer.proofs.Answers.{flat_answers_lem}
 use Rattle.flat_writer.proofs.Trips.{flat_trips_lem}
 use Rattle.flat.proofs.Ported.{flat_ported_lem}
 use Rattle.record_line.proofs.Bytes.{same_line}
@@ -67,7 +67,7 @@ claims =
       lengths_needed = lengths_needed_lem;
       mapped_back = mapped_back_lem;
       channels15 = channels_15;
-      writer = record { round_trips = round_trips_lem; turned_away = turned_away_lem; flat_trips = flat_trips_lem; flat_answers = flat-answers };
+      writer = record { round_trips = round_trips_lem; turned_away = turned_away_lem; flat_trips = flat_trips_lem; flat_answers = flat_answers_lem };
       kept_bits = kept_bits_lem;
       find_fast = find_fast_lem;
       few_bytes = few_bytes_lem;

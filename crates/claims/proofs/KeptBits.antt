@@ -6,7 +6,7 @@ use Rattle.record_writer.proofs.Trips.{from_fields, round_trips_lem}
 use Rattle.record_writer.proofs.Turned.{turned_away_lem}
 use Rattle.record_writer.specs.Layout.{made_of}
 use Rattle.record_writer.specs.declared.WriteAnswer.{WriteAnswer}
-use Rattle.flat_writer.proofs.Answers.{kept-answers}
+use Rattle.flat_writer.proofs.Answers.{kept_answers}
 use Rattle.flat_writer.proofs.KeptTrips.{kept_trips}
 use Rattle.claims.specs.KeptBits.{KeptBits}
 
@@ -22,5 +22,5 @@ kept_bits_lem =
       zeros = λ e oem out left w. (round_trips_lem (made_of e) oem out left w.answer).zeros e refl w;
       seven = λ e k oem. (turned_away_lem oem).exactly e k;
       trips = kept_trips;
-      answers = kept-answers;
+      answers = kept_answers;
     }

@@ -10,8 +10,8 @@ mod sames;
 mod say;
 mod walks;
 
-use libc::STDIN_FILENO;
 use say::{say, up_to};
+use std::io::{Read, Stdin};
 
 // One place more than the longest question has, a letter, a space and 132,400 digits: a line that fills it is none.
 const LINE: usize = 132403;
@@ -115,29 +115,27 @@ fn take_all(chunk: &[u8], line: &mut [u8], filled: usize) -> usize {
 
 // A line that the end of the input cuts off is no question, and neither is one at which reading fails. Nothing says that the input ends, so the turns
 // are counted down from a number that no run uses up.
-fn replay(line: &mut [u8]) {
+fn replay(stdin: &mut Stdin, line: &mut [u8]) {
     let mut filled = 0;
     let mut turns = u64::MAX;
     while 0 < turns {
         let mut chunk = io::large_buffer();
-        let got = libc::read(STDIN_FILENO, &mut chunk);
-        if got < 0 {
+        let Ok(n) = stdin.read(&mut chunk) else {
             say(b"?\n");
             return;
-        }
-        if got == 0 {
+        };
+        if n == 0 {
             if 0 < filled {
                 say(b"?\n");
             }
             return;
         }
-        let n = io::count(got, &chunk);
         filled = take_all(&chunk[..n], line, filled);
         turns -= 1;
     }
 }
 
-fn main() {
+fn main(rt: HostRuntime) {
     let mut line = [0u8; LINE];
-    replay(&mut line);
+    replay(&mut rt.stdin(), &mut line);
 }

@@ -1,9 +1,10 @@
 // Parts of an answer's line, each written in one call.
 use field::numbers::{INVALID_CHANNEL, NO_ROOM, TOO_SHORT, UNKNOWN_TYPE};
-use libc::STDOUT_FILENO;
+
+const STDOUT: i32 = 1;
 
 pub(crate) fn say(s: &[u8]) {
-    io::write_all(STDOUT_FILENO, s);
+    io::write_all(STDOUT, s);
 }
 
 // The first n bytes; all of them where there are fewer.

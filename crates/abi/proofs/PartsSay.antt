@@ -1,9 +1,9 @@
 -- The sentences of specs/PartsSay.antt. Assumes nothing.
+use Rattle.std.specs.Prelude.{if◌then◌else◌}
 use Prim.Native.Nat.{ℕ}
 use mathlib.Core.Path.{◌≡◌, sym, ap, ◌∙◌}
 use mathlib.Core.List.{List}
 use lib.Dec.{eqb}
-use Rattle.field.specs.Choose.{if◌then◌else◌}
 use Rattle.field.specs.Handed.{no_bytes, no_such_part, unreserved}
 use Rattle.field.proofs.Choices.{float}
 use Rattle.text.specs.Written.{room_for}

@@ -1,6 +1,5 @@
 -- The index of a capture's slots, in numbers. Assumes nothing.
-use Rattle.std.specs.Prelude.{ℕ, ◌≡◌, not, List, [], length}
-use Rattle.field.specs.Choose.{if◌then◌else◌}
+use Rattle.std.specs.Prelude.{ℕ, ◌≡◌, not, List, [], length, if◌then◌else◌}
 use Rattle.field.specs.Handed.{Handed, bad_capture, handed, wrong_index}
 use Rattle.capture.specs.Length.{bad_length}
 use Rattle.index.specs.Check.{right_index}

@@ -1,6 +1,5 @@
 -- Logical units by their number. Assumes nothing.
-use Rattle.std.specs.Prelude.{ℕ, [], ◌∷◌, leb}
-use Rattle.field.specs.Choose.{if◌then◌else◌}
+use Rattle.std.specs.Prelude.{ℕ, [], ◌∷◌, leb, if◌then◌else◌}
 use Rattle.field.specs.Handed.{Handed, handed}
 use Rattle.flat_form.specs.Form.{unasked}
 

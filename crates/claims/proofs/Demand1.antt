@@ -1,4 +1,5 @@
 -- Demand 1. Assumes nothing.
+use Rattle.std.specs.Prelude.{if◌then◌else◌}
 use Prim.Native.Nat.{ℕ, ◌≤◌, ◌<◌}
 use mathlib.Core.Path.{◌≡◌, refl, sym, ap, subst, ◌∙◌}
 use mathlib.Core.Bool.{Bool, not, true, ◌||◌}
@@ -10,7 +11,7 @@ use borrow.Author.Tests.{le-leb, lt-leb, ne_eqb}
 use lib.Dec.{eqb, leb, ltb}
 use lib.ListN.{length, drop}
 use Rattle.field.specs.Bits.{byte_at, le32_at}
-use Rattle.field.specs.Choose.{if◌then◌else◌, within}
+use Rattle.field.specs.Choose.{within}
 use Rattle.field.specs.Handed.{Handed}
 use Rattle.field.specs.Rows.{LongEnough, Rows, Taken, accepted, long, too_short}
 use Rattle.field.proofs.Choices.{clash, either}

@@ -1,4 +1,5 @@
 -- The fields of every good answer. Assumes nothing.
+use Rattle.std.specs.Prelude.{if◌then◌else◌}
 use Prim.Native.Nat.{ℕ, ◌+◌, ◌/◌, ◌%◌, ◌≤◌, ◌<◌}
 use mathlib.Core.Path.{◌≡◌, refl, sym, ap, subst, ◌∙◌}
 use mathlib.Core.Bool.{Bool, true, false}
@@ -10,7 +11,7 @@ use lib.Dec.{eqb, ltb}
 use lib.Seq.{drop_at, take_at}
 use lib.ListN.{length, drop, take, length-drop, length-take, replicate}
 use Rattle.field.specs.Bits.{byte_at, bits, bytes_at, le16_at, le24_at, le32_at}
-use Rattle.field.specs.Choose.{if◌then◌else◌, within}
+use Rattle.field.specs.Choose.{within}
 use Rattle.connection.specs.Channel.{channel_at, valid_channel}
 use Rattle.connection.specs.Unit.{unit_of}
 use Rattle.connection.proofs.Back.{channel_number_lem, unit_back}

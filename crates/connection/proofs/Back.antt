@@ -1,11 +1,11 @@
 -- The theorems of specs/Back.antt, and the number of an answer. Assumes nothing.
+use Rattle.std.specs.Prelude.{if◌then◌else◌}
 use Prim.Native.Nat.{ℕ, ◌≤◌, ◌<◌, ◌%◌}
 use mathlib.Core.Path.{◌≡◌, refl, sym, ap, ◌∙◌}
 use mathlib.Core.Bool.{Bool, true, false}
 use native.Mathlib.Omega.{arith}
 use lib.Dec.{eqb, leb}
 use borrow.Author.Tests.{eqb-true, eqb-false, leb-true, leb-false, le-leb, lt-leb}
-use Rattle.field.specs.Choose.{if◌then◌else◌}
 use Rattle.field.specs.Bits.{bits}
 use Rattle.field.specs.Handed.{Answers}
 use Rattle.field.proofs.Choices.{float, settled, answers}

@@ -1,8 +1,7 @@
 -- Versions of the standard, which differ in the valid channels (section 6.3, table 6-1): 1h to 7h are numbered in IPMI 1.5, where 8h to Dh are
 -- reserved, and 1h to Bh in 2.0. A caller names one by its number in Get Device ID (section 20.1, IPMI version), whose low digit comes first: 51h
 -- is 1.5, and 02h is 2.0. Assumes nothing.
-use Rattle.std.specs.Prelude.{ℕ, Bool, ◌||◌, eqb, leb}
-use Rattle.field.specs.Choose.{if◌then◌else◌}
+use Rattle.std.specs.Prelude.{ℕ, Bool, ◌||◌, eqb, leb, if◌then◌else◌}
 use Rattle.connection.specs.Channel.{valid_channel}
 use Rattle.connection.specs.declared.NewVersion.{NewVersion}
 use Rattle.connection.specs.declared.Version.{Version}

@@ -1,11 +1,11 @@
 -- Laws of choices; and an answer that is the definition's has the definition's number.
 -- Assumes nothing.
+use Rattle.std.specs.Prelude.{if◌then◌else◌}
 use Prim.Native.Nat.{ℕ}
 use mathlib.Core.Path.{◌≡◌, refl, sym, ap, subst, ◌∙◌}
 use mathlib.Core.Bool.{Bool, true, false}
 use lib.Dec.{T, eqb}
 use borrow.Author.Tests.{eqb-true}
-use Rattle.field.specs.Choose.{if◌then◌else◌}
 use Rattle.field.specs.Handed.{Handed, Answers}
 
 -- no test goes both ways

@@ -1,4 +1,5 @@
 -- What is said of a length is what its answer comes to in the flat form, whatever output is lent. Assumes nothing.
+use Rattle.std.specs.Prelude.{if◌then◌else◌}
 use Prim.Native.Nat.{ℕ}
 use mathlib.Core.Path.{◌≡◌, sym, ap, ◌∙◌}
 use mathlib.Core.Bool.{Bool, true, false}
@@ -8,7 +9,6 @@ use borrow.Author.Tests.{le-leb}
 use lib.Dec.{eqb}
 use lib.ListN.{length}
 use Rattle.field.specs.Bits.{byte_at, le32_at}
-use Rattle.field.specs.Choose.{if◌then◌else◌}
 use Rattle.field.specs.Handed.{Handed}
 use Rattle.field.specs.Placed.{placed}
 use Rattle.answers.specs.Length.{length_answer, length_hands, number_of}

@@ -1,4 +1,5 @@
 -- The theorem of specs/Sizes.antt: the flat bytes of each kind are counted. Assumes nothing.
+use Rattle.std.specs.Prelude.{if◌then◌else◌}
 use Prim.Native.Nat.{ℕ, ◌≤◌}
 use mathlib.Core.Path.{◌≡◌, refl, subst}
 use mathlib.Core.Bool.{Bool, true, false}
@@ -8,7 +9,7 @@ use borrow.Author.Tests.{eqb-true, eq-eqb, ne_eqb, le-leb, lt-leb}
 use lib.Dec.{eqb, ltb}
 use lib.ListN.{length, drop, length-take}
 use Rattle.field.specs.Bits.{Bytes, byte_at, le32_at}
-use Rattle.field.specs.Choose.{if◌then◌else◌, within}
+use Rattle.field.specs.Choose.{within}
 use Rattle.field.specs.Handed.{Handed}
 use Rattle.field.specs.Rows.{LongEnough, long, too_short}
 use Rattle.field.proofs.Choices.{clash, either}

@@ -1,7 +1,6 @@
 -- What a letter and a length decide (docs/SCOPE.md, "The flat form"): before there is a byte of the answer. Assumes nothing.
-use Rattle.std.specs.Prelude.{ℕ, List, [], eqb, length}
+use Rattle.std.specs.Prelude.{ℕ, List, [], eqb, length, if◌then◌else◌}
 use Rattle.field.specs.Bits.{byte_at, le32_at}
-use Rattle.field.specs.Choose.{if◌then◌else◌}
 use Rattle.answers.specs.Length.{length_hands}
 use Rattle.answers.specs.declared.AnswerKind.{AnswerKind}
 use Rattle.flat_form.specs.Form.{Flat, decided, flat_answer, no_question}

@@ -1,7 +1,7 @@
 -- Requests in the flat form (docs/SCOPE.md, "The flat form"): a command and its fields, to the payload. Assumes nothing.
-use Rattle.std.specs.Prelude.{ℕ, List, [], eqb, length}
+use Rattle.std.specs.Prelude.{ℕ, List, [], eqb, length, if◌then◌else◌}
 use Rattle.field.specs.Bits.{byte_at, le16_at}
-use Rattle.field.specs.Choose.{if◌then◌else◌, within}
+use Rattle.field.specs.Choose.{within}
 use Rattle.ids.specs.Ids.{record_id, reservation_id}
 use Rattle.get_entry.specs.GetEntry.{entry_request}
 use Rattle.sel_commands.specs.Clear.{clear_request}

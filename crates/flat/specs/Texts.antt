@@ -1,7 +1,6 @@
 -- The texts in the flat form (docs/SCOPE.md, "The flat form"), by the bytes of the question. Assumes nothing.
-use Rattle.std.specs.Prelude.{ℕ, List, [], ◌∷◌, eqb, length}
+use Rattle.std.specs.Prelude.{ℕ, List, [], ◌∷◌, eqb, length, if◌then◌else◌}
 use Rattle.field.specs.Bits.{byte_at, bits, le32_at}
-use Rattle.field.specs.Choose.{if◌then◌else◌}
 use Rattle.connection.specs.Channel.{valid_channel}
 use Rattle.storage.specs.Time.{log_time_text, time_text}
 use Rattle.event_data.specs.DataText.{data_text}

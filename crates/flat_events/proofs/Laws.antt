@@ -1,11 +1,11 @@
 -- From the answers of both ways to the flat form. Assumes nothing.
+use Rattle.std.specs.Prelude.{if◌then◌else◌}
 use Prim.Native.Nat.{ℕ}
 use mathlib.Core.Path.{◌≡◌, sym, ap, ◌∙◌}
 use mathlib.Core.Bool.{not}
 use mathlib.Core.List.{List}
 use lib.Dec.{eqb, ltb}
 use lib.ListN.{length}
-use Rattle.field.specs.Choose.{if◌then◌else◌}
 use Rattle.field.specs.Handed.{invalid_channel, short, too_long, unknown_type}
 use Rattle.field.specs.Lengths.{entry_bytes}
 use Rattle.field.proofs.Choices.{float}

@@ -1,9 +1,9 @@
 -- The list of reads, and the request for a part, in the flat form. Assumes nothing.
+use Rattle.std.specs.Prelude.{if◌then◌else◌}
 use Prim.Native.Nat.{ℕ}
 use mathlib.Core.Path.{◌≡◌, sym, ap, ◌∙◌}
 use mathlib.Core.List.{List}
 use lib.Dec.{eqb}
-use Rattle.field.specs.Choose.{if◌then◌else◌}
 use Rattle.field.specs.Handed.{no_bytes, no_such_part, unreserved}
 use Rattle.field.proofs.Choices.{float}
 use Rattle.partial.specs.Reads.{Lists}

@@ -1,6 +1,5 @@
 -- The list of reads, and the request for a part of a record, in the flat form (docs/SCOPE.md, "The flat form"). Assumes nothing.
-use Rattle.std.specs.Prelude.{ℕ, eqb}
-use Rattle.field.specs.Choose.{if◌then◌else◌}
+use Rattle.std.specs.Prelude.{ℕ, eqb, if◌then◌else◌}
 use Rattle.field.specs.Handed.{no_bytes, no_such_part, unreserved}
 use Rattle.ids.specs.Ids.{record_id, reservation_id}
 use Rattle.partial.specs.Reads.{pairs, reads_of}

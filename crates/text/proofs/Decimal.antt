@@ -1,4 +1,5 @@
 -- Laws of decimal texts. Assumes nothing.
+use Rattle.std.specs.Prelude.{if◌then◌else◌}
 use mathlib.Core.Path.{◌≡◌, refl, ◌∙◌, ap, sym}
 use mathlib.Core.Bool.{Bool, true, false}
 use mathlib.Core.List.{[], ◌∷◌, ◌++◌, append_assoc}
@@ -8,7 +9,6 @@ use native.Mathlib.Nat.{pow-suc}
 use borrow.Author.Tests.{lt-ltb, le-ltb, ltb-true, ltb-false}
 use lib.Dec.{ltb}
 use lib.ListN.{length, length-append}
-use Rattle.field.specs.Choose.{if◌then◌else◌}
 use Rattle.text.specs.Numbers.{digit_of, decimal_in, decimal, last_two}
 
 -- below 10, one digit; else, those of the tenth part and one digit

@@ -1,6 +1,5 @@
 -- Numbers as texts. Assumes nothing.
-use Rattle.std.specs.Prelude.{ℕ, zero, suc, ◌/◌, ◌%◌, List, [], ◌∷◌, ◌++◌, ltb, get_or}
-use Rattle.field.specs.Choose.{if◌then◌else◌}
+use Rattle.std.specs.Prelude.{ℕ, zero, suc, ◌/◌, ◌%◌, List, [], ◌∷◌, ◌++◌, ltb, get_or, if◌then◌else◌}
 use Rattle.text.specs.Text.{bytes}
 
 -- the digit of a number below 16

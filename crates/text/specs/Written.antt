@@ -1,6 +1,5 @@
 -- What the writer of a whole text answers, and what it leaves in the lent output. Assumes nothing.
-use Rattle.std.specs.Prelude.{ℕ, ◌≡◌, Bool, List, [], ◌∷◌, leb, length}
-use Rattle.field.specs.Choose.{if◌then◌else◌}
+use Rattle.std.specs.Prelude.{ℕ, ◌≡◌, Bool, List, [], ◌∷◌, leb, length, if◌then◌else◌}
 use Rattle.field.specs.Handed.{Handed, handed, no_room}
 use Rattle.field.specs.Placed.{placed}
 use Rattle.text.specs.declared.Written.{Written}

@@ -12,9 +12,9 @@ PAGE, HEAD = 'docs/FLOORS.md', '    floor  rooms'
 
 
 def named(root):
-    """{crate: what its line of crates.txt names}."""
+    """{crate: what its line of crates.txt names}. Beside the crate's name there may be words on it, as `staticlib`."""
     lines = [x.split('#')[0].partition(':') for x in (root / 'crates.txt').read_text().splitlines()]
-    return {name.strip(): deps.split() for name, _, deps in lines if name.strip()}
+    return {words.split()[0]: deps.split() for words, _, deps in lines if words.strip()}
 
 
 def floors(crates):

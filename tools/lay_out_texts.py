@@ -5,10 +5,12 @@ Texts that are the same have one copy, a text that lies in a longer one lies the
 Nothing rests on this script: that every place holds its text is proved of what it writes. ./check sees that store.rt is what it writes.
 """
 import re
+import textwrap
 from pathlib import Path
 
 CRATE = Path(__file__).resolve().parent.parent / 'crates/event_offset'
 OFFSETS = 16
+COLUMNS = 99  # of a line of numbers, as rt fmt fills them
 
 
 def classes(tables):
@@ -40,8 +42,8 @@ def chains(texts):
 
 
 def array(name, kind, numbers):
-    lines = ''.join(f'    {n},\n' for n in numbers)
-    return f'pub(crate) const {name}: [{kind}; {len(numbers)}] = [\n{lines}];\n'
+    lines = textwrap.fill(' '.join(f'{n},' for n in numbers), COLUMNS, initial_indent='    ', subsequent_indent='    ')
+    return f'pub(crate) const {name}: [{kind}; {len(numbers)}] = [\n{lines}\n];\n'
 
 
 def lay_out(tables):

@@ -1,15 +1,16 @@
 """The quick tests of ./check over a tree: quick.py ROOT prints a line for each fault, and exits with 1 where there is one."""
 import re
-import subprocess
 import sys
 from itertools import takewhile
 from pathlib import Path
 
 sys.dont_write_bytecode = True
-from floors import floor_faults
+from floors import floor_faults, named
 from lay_out_texts import lay_out
 from signatures import signature_faults
 
+# A crate whose functions are those of another under the same contracts, which tools/signatures.py sees: what the page states of the one it states of both.
+AGAIN = {'abi_c': 'abi'}
 # What the type of data is made of, beside the types that the code declares and records of data.
 DATA = {'ℕ', 'Bool', 'List', 'String', 'Type', '→', '×'}
 
@@ -87,7 +88,7 @@ def stated(root, crate):
 
 def stating_faults(root, crate):
     """Public functions that the page leaves out, and functions of the page that are not there."""
-    base, said, there = root / 'crates' / crate / 'src', stated(root, crate), set()
+    base, said, there = root / 'crates' / crate / 'src', stated(root, crate) | stated(root, AGAIN.get(crate, crate)), set()
     public = set(re.findall(r'\bpub\s+mod\s+(\w+)', code_of(base / 'lib.rt')))
     for f in sorted(base.rglob('*.rt')):
         for n, name, _, _ in functions(code_of(f)):
@@ -109,8 +110,8 @@ def source_faults(root, crate, met):
             if not clauses['ensures']:
                 yield f'{at} has no ensures'
             for p in lent:
-                if not re.search(rf'(?<!\w)«?{p}»?\s*\.exit\b', clauses['ensures']):
-                    yield f'{at}: no clause names {p} .exit'
+                if not re.search(rf'(?<![\w.])(?:«{p}»|{p})\.new\b', clauses['ensures']):
+                    yield f'{at}: no clause names {p}.new'
             if clauses['requires']:
                 met.add(f'{crate}::{name}')
                 if f'{crate}::{name}' not in argued:
@@ -152,6 +153,15 @@ def records(antt):
         yield m.group(1), [t for _, _, _, t in declarations(lines[start + 1:end])]
 
 
+def cases(antt):
+    """The types of the cases of each `data`."""
+    lines = antt.split('\n')
+    for k, line in enumerate(lines):
+        if re.match(r'(?:pub )?data \S', line):
+            start = next(j for j in range(k, len(lines)) if re.search(r'(?<!\S)where\s*$', lines[j]))
+            yield from (t for _, _, _, t in declarations(list(takewhile(lambda x: not x.strip() or indent(x), lines[start + 1:]))))
+
+
 def of_data(kind, known):
     return all(w in known for w in re.findall(r'[^\s(){}]+', kind))
 
@@ -164,7 +174,7 @@ def claims(root):
         found += [(f.relative_to(root).parts[1], name, fields) for name, fields in records(antt)]
         made += [(name, re.findall(r' : (.*)', cases)) for name, cases in re.findall(r'(?m)^(?:pub )?data (\S+) : Type 0 where\n((?:  \S.*\n?)+)', antt)]
         for m in re.finditer(r'(?m)^use \S*\.declared\.\S*\.\{([^}]*)\}', antt):
-            known |= {n.strip() for n in m.group(1).split(',')}
+            known |= {n.split(' as ')[-1].strip() for n in m.group(1).split(',')}
     while True:  # a record of data is data for the next, and so is what is made of data alone
         claiming = [r for r in found if not all(of_data(t, known) for t in r[2])]
         more = {name for _, name, _ in found} - {name for _, name, _ in claiming}
@@ -207,7 +217,7 @@ def proves(lines, name, known):
 
 
 def mentions(text, name):
-    return re.search(rf'(?<![^\s(⌜]){re.escape(name)}(?![^\s)⌝])', text)
+    return re.search(rf'(?<![^\s({{]){re.escape(name)}(?![^\s)}}])', text)
 
 
 def unproved_claims(root):
@@ -215,6 +225,7 @@ def unproved_claims(root):
     # a promise is proved of each function whose contract cites it; a premise and a notion that a definition uses claim nothing
     used = [re.sub(r'(?m)^ghost use [^;]*;', '', code_of(f)) for f in (root / 'crates').glob('*/src/**/*.rt')]
     used += [t.rpartition('→')[0] for _, _, fields in claiming for t in fields]
+    used += [t.rpartition('→')[0] for f in (root / 'crates').glob('*/specs/**/*.antt') for t in cases(antt_of(f))]
     used += [m.group(1) for f in (root / 'crates').glob('*/specs/**/*.antt') for m in re.finditer(r'(?m)^[^\s:]+(?: [^:\n]*)? =((?:.*\n?)(?: +.*\n?)*)', antt_of(f))]
     proofs = {c: [antt_of(f).split('\n') for f in sorted((root / 'crates' / c / 'proofs').rglob('*.antt'))] for c, _, _ in claiming}
     left = [r for r in claiming if not any(mentions(text, r[1]) for text in used)]
@@ -283,7 +294,7 @@ def store_faults(root):
 
 
 def faults(root):
-    names = {x.split('#')[0].split(':')[0].strip() for x in (root / 'crates.txt').read_text().splitlines()} - {''}
+    names = set(named(root))
     there = {d.name for d in (root / 'crates').iterdir() if d.is_dir()}
     yield from (f'crates/{c} is not listed in crates.txt' for c in sorted(there - names))
     yield from (f'crates.txt lists {c}, which is not there' for c in sorted(names - there))
@@ -301,9 +312,6 @@ def faults(root):
     yield from sample_faults(root)
     yield from pair_faults(root)
     yield from store_faults(root)
-    said = subprocess.run(['rt', 'fmt', '--check'], cwd=root, capture_output=True, text=True)
-    if said.returncode:
-        yield 'rt fmt --check: ' + (said.stdout + said.stderr).strip().replace(f'{root}/', '')
 
 
 if __name__ == '__main__':

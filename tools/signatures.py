@@ -1,51 +1,56 @@
-"""What crates/abi exports to C: include/sel.h and rust/ipmi-sel/src/ffi.rs declare that, name by name and type by type, and their sizes are those of the definitions."""
+"""What crates/abi exports to C: crates/abi_c, of which the library is made, include/sel.h and rust/ipmi-sel/src/ffi.rs declare that, name by name
+and type by type, the first under the same contracts, and their sizes are those of the definitions."""
 import re
 
-ABI, HEADER, RUST = 'crates/abi/src', 'include/sel.h', 'rust/ipmi-sel/src'
+ABI, LIBRARY, HEADER, RUST = 'crates/abi/src', 'crates/abi_c/src', 'include/sel.h', 'rust/ipmi-sel/src'
 # The answer of most functions stands where the flat form is.
 STRUCTS = 'crates/flat_form/src'
 C = {'u8': 'uint8_t', 'u16': 'uint16_t', 'u32': 'uint32_t', 'usize': 'size_t'}
 # The header's macro; file and name of the constant in Rust; file and name of the definition; and how many times that, where it is not once.
 SIZES = [
-    ('SEL_STORE', 'text.rs', 'STORE', 'crates/event_offset/specs/Fills.antt', 'storeRoom'),
+    ('SEL_STORE', 'text.rs', 'STORE', 'crates/event_offset/specs/Fills.antt', 'store_room'),
     ('SEL_PLACES', 'text.rs', 'PLACES', 'crates/event_offset/specs/Places.antt', 'places'),
-    ('SEL_EVENT_TEXT', 'text.rs', 'EVENT_ROOM', 'crates/event_offset/specs/Event.antt', 'eventRoom'),
-    ('SEL_DATA_TEXT', 'text.rs', 'DATA_ROOM', 'crates/event_data/specs/DataText.antt', 'dataRoom'),
-    ('SEL_TIME_TEXT', 'text.rs', 'TIME_ROOM', 'crates/storage/specs/Time.antt', 'timeRoom'),
-    ('SEL_FLAT', 'flat.rs', 'MOST', 'crates/flat/specs/Sizes.antt', 'flatRoom'),
-    ('SEL_REQUEST', 'request.rs', 'MOST', 'crates/flat/specs/Sizes.antt', 'requestRoom'),
-    ('SEL_KEPT', 'storage/sel/kept.rs', 'KEPT', 'crates/flat_writer/specs/Kept.antt', 'keptRoom'),
+    ('SEL_EVENT_TEXT', 'text.rs', 'EVENT_ROOM', 'crates/event_offset/specs/Event.antt', 'event_room'),
+    ('SEL_DATA_TEXT', 'text.rs', 'DATA_ROOM', 'crates/event_data/specs/DataText.antt', 'data_room'),
+    ('SEL_TIME_TEXT', 'text.rs', 'TIME_ROOM', 'crates/storage/specs/Time.antt', 'time_room'),
+    ('SEL_FLAT', 'flat.rs', 'MOST', 'crates/flat/specs/Sizes.antt', 'flat_room'),
+    ('SEL_REQUEST', 'request.rs', 'MOST', 'crates/flat/specs/Sizes.antt', 'request_room'),
+    ('SEL_KEPT', 'storage/sel/kept.rs', 'KEPT', 'crates/flat_writer/specs/Kept.antt', 'kept_room'),
+    ('SEL_MESSAGE', 'events.rs', 'MESSAGE', 'crates/platform_event/specs/Message.antt', 'message_bytes'),
     # at most as many reads as a record has bytes, of two bytes each
-    ('SEL_READS', 'parts.rs', 'READS', 'crates/field/specs/Lengths.antt', 'entryBytes', 2),
+    ('SEL_READS', 'parts.rs', 'READS', 'crates/field/specs/Lengths.antt', 'entry_bytes', 2),
 ]
 # The bytes that each letter's answer needs: what the header says of them, with the names of the definitions.
-LENGTHS = 'crates/field/specs/Lengths.antt'
+LENGTHS = ('crates/field/specs/Lengths.antt', 'crates/platform_event/specs/Message.antt')
 SAID = [
-    'under {entryBytes} for e, under {getEntryBytes} for g, under {infoBytes} for i, under {allocationBytes} for a, under {reserveBytes} for r, under {clearBytes} for c;',
-    'over {infoBytes} for i, and never for the others',
-    '{entryBytes} for e, {getEntryBytes} for g, {infoBytes} for i, {allocationBytes} for a, {reserveBytes} for r, {clearBytes} for c; 0',
-    'A record of the log, {entryBytes} bytes or more',
-    '1 with {entryBytes} under {entryBytes} bytes; 2 with the type',
-    '1 with {getEntryBytes} under {getEntryBytes} bytes; then 2 and 3 as sel_entry',
-    '1 with {allocationBytes} under {allocationBytes} bytes; then 4',
-    '1 with {infoBytes} under {infoBytes} bytes, 8 over {infoBytes}',
-    '1 with {reserveBytes} under {reserveBytes} bytes, then 9',
-    '1 with {clearBytes} where it is empty',
-    '{entryBytes} where it is 1, the record type where it is 2',
+    'under {entry_bytes} for e, under {get_entry_bytes} for g, under {info_bytes} for i, under {allocation_bytes} for a, under {reserve_bytes} for r, under {clear_bytes} for c;',
+    'over {info_bytes} for i, and never for the others',
+    '{entry_bytes} for e, {get_entry_bytes} for g, {info_bytes} for i, {allocation_bytes} for a, {reserve_bytes} for r, {clear_bytes} for c; 0',
+    'A record of the log, {entry_bytes} bytes or more',
+    '1 with {entry_bytes} under {entry_bytes} bytes; 2 with the type',
+    '1 with {get_entry_bytes} under {get_entry_bytes} bytes; then 2 and 3 as sel_entry',
+    '1 with {allocation_bytes} under {allocation_bytes} bytes; then 4',
+    '1 with {info_bytes} under {info_bytes} bytes, 8 over {info_bytes}',
+    '1 with {reserve_bytes} under {reserve_bytes} bytes, then 9',
+    '1 with {clear_bytes} where it is empty',
+    '{entry_bytes} where it is 1, the record type where it is 2',
+    '1 with {message_bytes} under {message_bytes} bytes, also for the forms of five and six bytes that the standard allows; then 8 over {message_bytes} bytes;',
 ]
 # The numbers of refusals: what the header says of them, and the constants of Rust, with the names of the definitions.
 NUMBERS = 'crates/field/specs/Handed.antt'
-NAMED = ('0 accepted, {notEnoughData} too short, {unknownType} unknown record type, {invalidChannel} invalid channel, {noRoom} no room, {badCapture} bad capture, '
-         '{noSuchRecord} no such record, {tooLong} too long, {noReservation} a reservation of 0, {wrongIndex} wrong index, {unnamedVersion} no such version, '
-         '{noBytes} no bytes at once, {unreserved} no reservation, {nextDiffers} next ids differ, {noSuchPart} no such part of a record, or an answer after the last;')
+NAMED = ('0 accepted, {not_enough_data} too short, {unknown_type} unknown record type, {invalid_channel} invalid channel, {no_room} no room, {bad_capture} bad capture, '
+         '{no_such_record} no such record, {too_long} too long, {no_reservation} a reservation of 0, {wrong_index} wrong index, {unnamed_version} no such version, '
+         '{no_bytes} no bytes at once, {unreserved} no reservation, {next_differs} next ids differ, {no_such_part} no such part of a record, or an answer after the last;')
 CONSTANTS = [
-    ('TOO_SHORT', 'notEnoughData'), ('UNKNOWN_TYPE', 'unknownType'), ('INVALID_CHANNEL', 'invalidChannel'), ('NO_ROOM', 'noRoom'), ('BAD_CAPTURE', 'badCapture'),
-    ('NO_SUCH_RECORD', 'noSuchRecord'), ('TOO_LONG', 'tooLong'), ('NO_RESERVATION', 'noReservation'), ('WRONG_INDEX', 'wrongIndex'),
-    ('NO_BYTES', 'noBytes'), ('UNRESERVED', 'unreserved'), ('NEXT_DIFFERS', 'nextDiffers'), ('NO_SUCH_PART', 'noSuchPart'),
+    ('TOO_SHORT', 'not_enough_data'), ('UNKNOWN_TYPE', 'unknown_type'), ('INVALID_CHANNEL', 'invalid_channel'), ('NO_ROOM', 'no_room'), ('BAD_CAPTURE', 'bad_capture'),
+    ('NO_SUCH_RECORD', 'no_such_record'), ('TOO_LONG', 'too_long'), ('NO_RESERVATION', 'no_reservation'), ('WRONG_INDEX', 'wrong_index'),
+    ('NO_BYTES', 'no_bytes'), ('UNRESERVED', 'unreserved'), ('NEXT_DIFFERS', 'next_differs'), ('NO_SUCH_PART', 'no_such_part'),
 ]
 # The numbers of the versions: the header's macro, the constant of Rust, the definition.
 VERSIONS = [('SEL_IPMI_1_5', 'IPMI_1_5', 'ipmi15'), ('SEL_IPMI_2_0', 'IPMI_2_0', 'ipmi20')]
 VERSION = 'crates/connection/specs/Version.antt'
+EXPORT = r'#\[unsafe\(no_mangle\)\]pub extern"C"fn (\w+)(?:<[^>]*>)?\(([^()]*)\)->(\w+)'
+CLAUSE = r' ?((?:requires|ensures)(?: \w+)?)(?=\{)'
 WIDTH = {'u8': 1, 'u16': 2, 'u32': 4, 'usize': 8}
 MOST_RESULT = 16  # bytes: a result over these is handed back in another way on each machine
 
@@ -91,8 +96,8 @@ def size(kinds):
 def exported(root):
     """{name: declaration} in the header, of the structs in ffi.rs and of its functions, and {name: call} in ffi.rs, as they must be."""
     code = ''.join(tight(bare(f)) for place in (ABI, STRUCTS) for f in sorted((root / place).rglob('*.rt')))
-    structs = re.findall(r'#\[repr\(C\)\]pub struct (\w+)\{([^{}]*)\}', code)
-    functions = re.findall(r'#\[no_mangle\]pub extern"C"fn (\w+)(?:<[^>]*>)?\(([^()]*)\)->(\w+)', code)
+    structs = re.findall(r'#\[repr\(C\)\](?:#\[derive\([^()]*\)\])?pub struct (\w+)\{([^{}]*)\}', code)
+    functions = re.findall(EXPORT, code)
     if not functions or (len(functions), len(structs)) != (code.count('no_mangle'), code.count('repr(')):
         raise ValueError(f'{ABI} cannot be read: {len(functions)} functions and {len(structs)} structs of those marked')
     header, rust_structs, rust, calls = {}, {}, {}, {}
@@ -110,6 +115,51 @@ def exported(root):
         rust[name] = f'pub fn {name}({in_rust})->{result.removeprefix("Sel")}'
         calls[name] = f'library::{name}({given})'
     return header, rust_structs, rust, calls
+
+
+def block(code, i):
+    """The place after the bracket that closes the one at i."""
+    depth = 0
+    while True:
+        depth += (code[i] == '{') - (code[i] == '}')
+        i += 1
+        if not depth:
+            return i
+
+
+def promised(root, place):
+    """{name: declaration, clauses, where what the clauses cite comes from, and body} of each function that a crate exports."""
+    found, marked = {}, 0
+    for file in sorted((root / place).rglob('*.rt')):
+        code = tight(bare(file))
+        marked += code.count('no_mangle')
+        cited = {name.split(' as ')[-1]: f'{path}.{name}' for path, names in re.findall(r'ghost use ([\w.]+)\.\{([^{}]*)\};', code) for name in names.split(',')}
+        for m in re.finditer(EXPORT, code):
+            i, clauses = m.end(), ''
+            while w := re.compile(CLAUSE).match(code, i):
+                i = block(code, w.end())
+                clauses += code[w.start():i]
+            found[m.group(1)] = (f'{m.group(1)}({m.group(2)})->{m.group(3)}', clauses, {n: cited.get(n) for n in re.findall(r"[\w']+", clauses)}, code[i:block(code, i)])
+    if len(found) != marked:
+        raise ValueError(f'{place} cannot be read: {len(found)} functions of those marked')
+    return found
+
+
+def library_faults(root):
+    """The crate of which the library is made exports each function of the other, under the same contract, and does nothing but call it."""
+    abi, library = promised(root, ABI), promised(root, LIBRARY)
+    yield from (f'{LIBRARY} leaves out {name}' for name in abi if name not in library)
+    yield from (f'{LIBRARY}: {name} is not in {ABI}' for name in library if name not in abi)
+    for name in (n for n in library if n in abi):
+        (declared, clauses, cited, _), (found, said, meant, body) = abi[name], library[name]
+        given = re.findall(r'(?:^|,)(\w+):', declared[declared.index('(') + 1:declared.rindex(')')])
+        if found != declared:
+            yield f'{LIBRARY}: {found} must be {declared}'
+        if said != clauses:
+            yield f'{LIBRARY}: {name} promises {said.strip()}, and in {ABI} {clauses.strip()}'
+        yield from (f'{LIBRARY}: {name} cites {x} of {meant[x]}, and {ABI} of {cited[x]}' for x in cited if x in meant and meant[x] != cited[x])
+        if body != '{abi::' + f'{name}({",".join(given)})' + '}':
+            yield f'{LIBRARY}: {name} is {body}, and must call the function of {ABI} with what it is given'
 
 
 def differing(file, found, must):
@@ -169,7 +219,7 @@ def size_faults(root):
 
 def number_faults(root):
     """The header's comments name the lengths and the numbers of the definitions, and so do the constants of Rust."""
-    lengths = dict(re.findall(r'(?m)^(\w+Bytes) = (\d+)$', (root / LENGTHS).read_text()))
+    lengths = dict(re.findall(r'(?m)^(\w+_bytes) = (\d+)$', ''.join((root / file).read_text() for file in LENGTHS)))
     numbers = dict(re.findall(r'(?m)^(\w+)(?: \w+)? = handed (\d+) ', (root / NUMBERS).read_text()))
     header = ' '.join((root / HEADER).read_text().replace('\n *', ' ').split())
     for said in (NAMED, *SAID):
@@ -197,6 +247,7 @@ def signature_faults(root):
         return
     try:
         header, structs, functions, calls = exported(root)
+        yield from library_faults(root)
         yield from header_faults(root, header)
         yield from ffi_faults(root, structs, functions, calls)
         yield from size_faults(root)

@@ -1,4 +1,4 @@
-//! Links the proved library: libabi.a in the folder SEL_LIB_DIR, else where `rt staticlib abi` writes it.
+//! Links the proved library: libabi.a in the folder SEL_LIB_DIR, else where `tools/make-library` writes it.
 
 use std::path::{Path, PathBuf};
 use std::{env, process};
@@ -20,7 +20,7 @@ fn main() {
     let library = dir.join("libabi.a");
     println!("cargo:rerun-if-changed={}", library.display());
     if !library.is_file() {
-        stop(&format!("no {}: make it by `rt staticlib abi` at the project's root, or say where it is by SEL_LIB_DIR", library.display()));
+        stop(&format!("no {}: make it by `tools/make-library` at the project's root, or say where it is by SEL_LIB_DIR", library.display()));
     }
     println!("cargo:rustc-link-search=native={}", dir.display());
     println!("cargo:rustc-link-lib=static=abi");

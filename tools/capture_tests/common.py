@@ -3,7 +3,6 @@
 import contextlib
 import os
 import pathlib
-import platform
 import shutil
 import subprocess
 import sys
@@ -60,14 +59,14 @@ def printed_for(capture):
 
 
 def replayed(questions):
-    """The answers of the program `replay`, which ./check has built by now: run as it is, or with the toolchain's own C library, as tools/program.sh does."""
-    program = ROOT / "target/bin/replay"
-    expect(program.exists(), "no target/bin/replay; build it: rt check replay")
+    """The answers of the program `replay`, which ./check has built by now: run as it is, or with the toolchain's own C library."""
+    program = ROOT / "crates/replay/out/replay"
+    expect(program.exists(), "no crates/replay/out/replay; build it: (cd crates/replay && rt run </dev/null)")
     commands = [[program]]
     if shutil.which("rt"):
-        kit = pathlib.Path(subprocess.check_output(["rt", "doc"], text=True).strip()).parent.parent / "on" / platform.machine() / "toolchain"
-        emulator = kit / "bin/qemu-x86_64"
-        commands.append([*[emulator] * emulator.exists(), kit / "lib/ld-linux-x86-64.so.2", "--library-path", kit / "lib", program])
+        kit = pathlib.Path(subprocess.check_output(["rt", "doc"], text=True).strip()).parent / "toolchain/lib"
+        commands.append([kit / "ld-linux-x86-64.so.2", "--library-path", kit, program])
+        commands.append(["qemu-x86_64", *commands[-1]])
     asked = "".join(f"{question}\n" for question in questions).encode()
     for command in commands:
         with contextlib.suppress(OSError):
@@ -76,7 +75,7 @@ def replayed(questions):
                 answers = run.stdout.decode().splitlines()
                 same(len(answers), len(questions))
                 return answers
-    raise AssertionError("target/bin/replay does not run here")
+    raise AssertionError("crates/replay/out/replay does not run here")
 
 
 def convert(*words, data=b""):

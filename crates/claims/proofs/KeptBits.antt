@@ -5,7 +5,6 @@ use Rattle.sel.proofs.Kept.{keeps}
 use Rattle.record_writer.proofs.Trips.{from_fields, round_trips_lem}
 use Rattle.record_writer.proofs.Turned.{turned_away_lem}
 use Rattle.record_writer.specs.Layout.{made_of}
-use Rattle.record_writer.specs.declared.WriteAnswer.{WriteAnswer}
 use Rattle.flat_writer.proofs.Answers.{kept_answers}
 use Rattle.flat_writer.proofs.KeptTrips.{kept_trips}
 use Rattle.claims.specs.KeptBits.{KeptBits}

@@ -12,7 +12,7 @@ use Rattle.field.specs.Bits.{bits}
 use Rattle.field.proofs.Placed.{placed_front}
 use Rattle.text.specs.Text.{bytes}
 use Rattle.storage.specs.Time.{time_text}
-use Rattle.event_data.specs.DataText.{data2_text, data3_text, data_text, joined, unless_ffh}
+use Rattle.event_data.specs.DataText.{data2_text, data3_text, data_text, unless_ffh}
 use Rattle.event_data.proofs.Joined.{joined_both, joined_second, joined_third, unless_said}
 use Rattle.event_offset.specs.Event.{event_text, texts_of}
 use Rattle.event_offset.specs.Tables.{table_42_2, table_42_3}

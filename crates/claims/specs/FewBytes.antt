@@ -1,8 +1,7 @@
 -- Controllers that answer a few bytes: what is claimed of the request for a part of a record, of the list of reads, and of their answers joined. A
 -- sentence of the request for each. Assumes nothing.
-use Rattle.std.specs.Prelude.{ℕ, ◌≤◌, ◌<◌, ◌≡◌, Bool, List, [], ◌∷◌, ◌++◌, length, take, drop}
+use Rattle.std.specs.Prelude.{ℕ, ◌≤◌, ◌<◌, ◌≡◌, Bool, List, ◌++◌, length, take, drop}
 use Rattle.field.specs.Bits.{le_bytes}
-use Rattle.field.specs.Handed.{handed}
 use Rattle.field.specs.Lengths.{entry_bytes}
 use Rattle.field.specs.Rows.{Rows}
 use Rattle.ids.specs.declared.RecordId.{RecordId}

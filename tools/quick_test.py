@@ -6,6 +6,7 @@ from pathlib import Path
 
 sys.dont_write_bytecode = True
 sys.path.insert(0, str(Path(__file__).parent))
+from gate import edit_fault
 from lay_out_texts import lay_out
 from quick import faults
 
@@ -400,6 +401,24 @@ for file, old, new, word in CHANGED:
     said = tried({**EXPORTS, file: EXPORTS[file].replace(old, new)})
     if old not in EXPORTS[file] or not any(word in x for x in said):
         bad.append(f'planted in {file}, and not found: {word} (said: {said})')
+# What rt ci says of the must-fail edits where it passes, how many files of edits there are, and a word of what is then said.
+DONE = 'rt: ok; handles allowed: none{}; every proof and must-fail edit was done in this run\n'
+SAID = [
+    ('; must-fail edits: 7 refused', 7, None),
+    ('; must-fail edits: 7 refused, 2 of them only by a limit', 7, None),
+    ('', 0, None),
+    ('; must-fail edits: 7 refused, 3 bad', 10, '3 must-fail edits are bad'),
+    ('; must-fail edits: 7 refused, 2 of them only by a limit, 1 bad', 7, '1 must-fail edits are bad'),
+    ('; must-fail edits: 0 refused, 1 bad', 1, '1 must-fail edits are bad'),
+    ('; must-fail edits: 7 refused', 8, '7 must-fail edits are refused, of 8'),
+    ('', 1, '0 must-fail edits are refused, of 1'),
+]
+for words, files, fault in SAID:
+    said = edit_fault(['rt: field: 1 bad\n', DONE.format(words)], files)
+    if fault not in (said or '') if fault else said:
+        bad.append(f'gate.py says {said} of the edits, and not {fault}')
+if not edit_fault(['1 passed, 0 failed\n'], 0):
+    bad.append('gate.py misses no line `rt: ok`')
 # The samples of both programs must differ on a command that prints what it reads, on one that always ends well, and on one that never says why it failed.
 for program, first in (('seldump', 'CR LF'), ('selmake', 'a system entry')):
     for command, word in (('cat', f'{first}: line 1 must be'), ('true', 'standard output closed: the status must be 1, is 0'), ('false', "a full disk: b'cannot be written' must be said")):

@@ -24,33 +24,30 @@ fi
 (exec 5>&1) 2>/dev/null || stop 1 'standard output is closed'
 CDPATH= cd -- "$(dirname -- "$(readlink -f -- "$0")")" || exit 1
 
-# target/$name.built says which toolchain built the program, and is as old as what was built. What takes long is told.
+# target/$name.built says which toolchain built the program, and is as old as what was built. What takes long is told. rt builds a program
+# where it runs it, here once, on an empty input, and leaves it in its crate's out/, which an rt ci empties for a while: the copy stays.
 program=target/bin/$name
 built=target/$name.built
-up_to_date() { [ -x $program ] && [ "$(cat $built 2>/dev/null)" = "$(rt version)" ] && [ -z "$(find crates crates.txt -newer $built | head -n 1)" ]; }
+changed() { find crates.txt crates/*/src crates/*/specs crates/*/proofs -newer $built | head -n 1; }
+up_to_date() { [ -x $program ] && [ "$(cat $built 2>/dev/null)" = "$(rt version </dev/null)" ] && [ -z "$(changed)" ]; }
 build() {
-    mkdir -p target && rt version >$built.new || stop 1 'target/ cannot be written'
+    mkdir -p target/bin && rt version >$built.new </dev/null || stop 1 'target/ cannot be written'
     (sleep 5 >/dev/null 2>&1 && say 'proving and building, which takes some minutes the first time') >/dev/null </dev/null &
-    rt check $name >target/$name.log 2>&1 </dev/null
+    (cd crates/$name && rt run) >target/$name.log 2>&1 </dev/null
     checked=$?
     kill $! 2>/dev/null
     [ $checked = 0 ] || stop 1 "it is not proved, or another rt is at work here; target/$name.log says which"
-    mv $built.new $built
+    cp crates/$name/out/$name $program.new && mv $program.new $program && mv $built.new $built || stop 1 'target/ cannot be written'
 }
 if command -v rt >/dev/null; then
     up_to_date || build
-    # The program is for x86-64. It runs with the toolchain's own C library, and on Arm in the toolchain's emulator.
-    tools=$(dirname "$(dirname "$(rt doc)")")/on/$(uname -m)/toolchain
-    set -- "$tools/lib/ld-linux-x86-64.so.2" --library-path "$tools/lib" $program
-    [ ! -x "$tools/bin/qemu-x86_64" ] || set -- "$tools/bin/qemu-x86_64" "$@"
 else
     [ -x $program ] || stop 1 'it is not built; to prove and build it, install the Rattle toolchain (rt on PATH)'
-    set -- $program
 fi
 
 # The program writes to standard output itself. With an argument it also tells a status, on descriptor 3.
 exec 4>&1
-status=$(exec "$@" status 3>&1 >&4 4>&-)
+status=$(exec $program status 3>&1 >&4 4>&-)
 ended=$?
 case $status in
 $statuses) exit "$status" ;;

@@ -312,7 +312,7 @@ ssize_t read(int fd, void *to, size_t most) {
 
 
 def runs_by_itself(program):
-    """It does not where the C library is too old, nor on Arm, where an emulator runs it."""
+    """It does not where the C library is too old."""
     try:
         return run([str(program)], b"")[1] == 0
     except OSError:

@@ -7,7 +7,7 @@ import sys
 MOST = 5  # of each file
 
 if len(sys.argv) < 2:
-    sys.exit('frames: name the built files, such as crates/seldump/out/seldump target/staticlib/libabi.a')
+    sys.exit('frames: name the built files, such as target/bin/seldump target/staticlib/libabi.a')
 if not shutil.which('objdump'):
     sys.exit('frames: no objdump found; install it (Debian: apt-get install binutils)')
 for file in sys.argv[1:]:

@@ -1,5 +1,4 @@
 -- `sel_index_check` meets its contract. Assumes nothing.
--- the capture's length is sound
 use mathlib.Core.Path.{◌≡◌, sym, ◌∙◌}
 use mathlib.Core.Bool.{false}
 use lib.ListN.{length}

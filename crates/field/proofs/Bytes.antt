@@ -4,6 +4,7 @@ use mathlib.Core.Path.{◌≡◌, ap, ◌∙◌}
 use mathlib.Core.List.{List, [], ◌∷◌}
 use native.Mathlib.Nat.{add-mul-mod_self_left, mod-eq_of_lt}
 use native.Mathlib.Omega.{arith}
+use Rattle.std.specs.Int.{to_le_bytes, w16, w32}
 use Rattle.field.specs.Bits.{le_bytes, le16_at, le24_at, le32_at}
 
 pub high_byte : (n : ℕ) → n < 65536 → n / 256 % 256 ≡ n / 256
@@ -41,3 +42,13 @@ pub four_back : (a b c d : ℕ) → a < 256 → b < 256 → c < 256 → d < 256 
 four_back a b c d h i j k =
     let e : a + 256 * b + 65536 * (c + 256 * d) ≡ a + 256 * (b + 256 * c + 65536 * d) = omega arith in
     ap (le_bytes 4) e ∙ first_back 3 a (b + 256 * c + 65536 * d) h ∙ ap (λ (l : List ℕ). a ∷ l) (three_back b c d i j k)
+
+-- the library's two bytes of a number, and its four
+pub two_bytes : {r : List ℕ} {n m : ℕ} → r ≡ to_le_bytes w16 n → n ≡ m → r ≡ le_bytes 2 m
+two_bytes e f = e ∙ rw f
+
+pub four_bytes : {r : List ℕ} {n m : ℕ} → r ≡ to_le_bytes w32 n → n ≡ m → r ≡ le_bytes 4 m
+four_bytes {m = m} e f =
+    let third : m / 65536 % 256 ≡ m / 256 / 256 % 256 = omega arith in
+    let fourth : m / 16777216 % 256 ≡ m / 256 / 256 / 256 % 256 = omega arith in
+    e ∙ rw (f, third, fourth)

@@ -9,8 +9,7 @@ use borrow.Author.Tests.{le-leb, lt-leb}
 use lib.ListN.{length}
 use Rattle.field.specs.Handed.{Handed, handed}
 use Rattle.text.specs.Room.{Room}
-use Rattle.text.specs.Written.{Wrote, number_of}
-use Rattle.text.specs.declared.Written.{Written}
+use Rattle.text.specs.Written.{Written, Wrote, number_of}
 
 module _ (text out left : List ℕ) (r : Written) where
   needed : Wrote text out r left → length out < length text → number_of r ≡ handed 4 (length text ∷ [])

@@ -8,10 +8,10 @@ use native.Mathlib.Omega.{arith}
 use borrow.Author.Tests.{le-leb, lt-leb}
 use lib.ListN.{length, take, drop, set, length-append, length-drop}
 use lib.Seq.{take_at, drop-append-add, drop-drop, length-take-le, set_split, append_snoc, paste-zero}
+use Rattle.std.specs.Prelude.{Ok, Err}
 use Rattle.field.specs.Placed.{placed}
 use Rattle.text.specs.Text.{Put, PutWithin}
-use Rattle.text.specs.Written.{Wrote}
-use Rattle.text.specs.declared.Written.{Written}
+use Rattle.text.specs.Written.{Written, Wrote, needs}
 
 -- what stands before a text's end
 head : List ℕ → ℕ → List ℕ → List ℕ
@@ -101,26 +101,26 @@ copied out text part at next h e p =
 
 -- what an answer says: of what is left of the output, of the room, and of the length
 abbrev Keeps : List ℕ → List ℕ → List ℕ → Written → Type 0
-Keeps text out left (Written.Length n) = (left ≡ placed out 0 text) × (length text ≤ length out) × (n ≡ length text)
-Keeps text out left (Written.NoRoom n) = (left ≡ out) × (length out < length text) × (n ≡ length text)
+Keeps text out left (Ok n) = (left ≡ placed out 0 text) × (length text ≤ length out) × (n ≡ length text)
+Keeps text out left (Err e) = (left ≡ out) × (length out < length text) × (e ≡ needs (length text))
 
 -- a writer that keeps to it keeps the promise: after a refusal the output is as it was
 pub wrote : (text out left : List ℕ) (r : Written) → Keeps text out left r → Wrote text out r left
 unfolding placed
-wrote text out left (Written.Length n) (l, h, e) =
+wrote text out left (Ok n) (l, h, e) =
     let b = le-leb (length text) (length out) h in
     record { answered = simp (e, b); numbered = simp (e, b); leaves = l ∙ simp (b, zero-add) }
-wrote text out left (Written.NoRoom n) (l, h, e) =
+wrote text out left (Err r) (l, h, e) =
     let b = lt-leb (length text) (length out) h in
     record { answered = simp (e, b); numbered = simp (e, b); leaves = l ∙ simp b }
 
 -- the output is too short for the text: it is as it was
-pub refused : (text out : List ℕ) {r : Written} → r ≡ Written.NoRoom (length text) → length out < length text → Wrote text out r out
-refused text out e h = rw e (wrote text out out (Written.NoRoom (length text)) (refl, h, refl))
+pub refused : (text out : List ℕ) {r : Written} → r ≡ Err (needs (length text)) → length out < length text → Wrote text out r out
+refused text out e h = rw e (wrote text out out (Err (needs (length text))) (refl, h, refl))
 
 -- the text was put at the start
-pub written : (text out left : List ℕ) {r : Written} {next : ℕ} → r ≡ Written.Length (length text) → Put out left 0 next text → Wrote text out r left
-written text out left e p = rw e (wrote text out left (Written.Length (length text)) (p.holds, omega arith, refl))
+pub written : (text out left : List ℕ) {r : Written} {next : ℕ} → r ≡ Ok (length text) → Put out left 0 next text → Wrote text out r left
+written text out left e p = rw e (wrote text out left (Ok (length text)) (p.holds, omega arith, refl))
 
 -- any two answers, and any two outputs left, are equal
 pub one_answer : {text out left left' : List ℕ} {r r' : Written} → Wrote text out r left → Wrote text out r' left' → (r ≡ r') × (left ≡ left')

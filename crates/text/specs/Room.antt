@@ -1,8 +1,7 @@
 -- docs/SCOPE.md, "Numbers handed back", row 4, for every writer: it is given exactly when the output is shorter than the text. Assumes nothing.
 use Rattle.std.specs.Prelude.{ℕ, ◌≤◌, ◌<◌, ◌≡◌, List, [], ◌∷◌, ◌↔◌, length}
 use Rattle.field.specs.Handed.{handed}
-use Rattle.text.specs.Written.{Wrote, number_of}
-use Rattle.text.specs.declared.Written.{Written}
+use Rattle.text.specs.Written.{Written, Wrote, number_of}
 
 pub record Room (text out left : List ℕ) (r : Written) : Type 0 where
   pub four : Wrote text out r left → ((number_of r).number ≡ 4) ↔ (length out < length text)

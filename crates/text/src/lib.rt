@@ -7,27 +7,23 @@ ghost use Rattle.text.specs.Numbers.{decimal, digit_of, hex, hex_bytes, last_two
 ghost use Rattle.text.specs.Text.{Put};
 ghost use Rattle.text.specs.Written.{Wrote};
 
-// What the writer of a text answers.
-#[derive(Clone, Copy)]
-pub enum Written {
-    // The length of the text, which is written.
-    Length(usize),
-    // The length needed; nothing is written.
-    NoRoom(usize),
-}
+// The output is shorter than the text: the length needed. Nothing is written.
+#[derive(Clone, Copy, Debug, PartialEq, Eq)]
+pub struct NoRoom(pub usize);
 
-// Writes the text to the start of out, or refuses, where out is shorter: the one test for room of all writers.
-pub fn write(text: &[u8], out: &mut [u8]) -> Written
+// Writes the text to the start of out, and answers its length, or refuses, where out is shorter: the one test for room of all writers.
+pub fn write(text: &[u8], out: &mut [u8]) -> Result<usize, NoRoom>
     ensures { Wrote text.now out.old result out.new }
 {
     if out.len() < text.len() {
-        return Written::NoRoom(text.len());
+        return Err(NoRoom(text.len()));
     }
     let n = put(text, out, 0);
-    Written::Length(n)
+    Ok(n)
 }
 
 // Puts all of the text into out at the place at, and answers the place after it.
+#[tactic(auto, using(crate::proofs::Writes::copied))]
 pub fn put(text: &[u8], out: &mut [u8], at: usize) -> usize
     requires { at + length text.now ≤ length out.old }
     ensures { Put out.old out.new at result text.now }
@@ -37,6 +33,7 @@ pub fn put(text: &[u8], out: &mut [u8], at: usize) -> usize
     next
 }
 
+#[tactic(auto, using(crate::proofs::Writes::one))]
 pub fn put_byte(b: u8, out: &mut [u8], at: usize) -> usize
     requires { at + 1 ≤ length out.old }
     ensures { Put out.old out.new at result (b ∷ []) }
@@ -124,16 +121,15 @@ pub fn put_hex_bytes(data: &[u8], out: &mut [u8], at: usize) -> usize
     ensures { Put out.old out.new at result (hex_bytes «data».now) }
 {
     let mut next = at;
-    let mut i = 0;
-    while i < data.len() {
-        next = put_hex2(data[i], out, next);
-        i += 1;
+    for b in data {
+        next = put_hex2(*b, out, next);
     }
     next
 }
 
 const DIGITS: [u8; 16] = *b"0123456789ABCDEF";
 
+#[tactic(auto, unfolding(crate::specs::Numbers::digit_of))]
 fn digit(d: u8) -> u8
     requires { d < 16 }
     ensures { result ≡ digit_of d }

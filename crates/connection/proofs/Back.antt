@@ -1,5 +1,5 @@
 -- The theorems of specs/Back.antt, and the number of an answer. Assumes nothing.
-use Rattle.std.specs.Prelude.{if◌then◌else◌}
+use Rattle.std.specs.Prelude.{Result, Ok, Err, if◌then◌else◌}
 use Prim.Native.Nat.{ℕ, ◌≤◌, ◌<◌, ◌%◌}
 use mathlib.Core.Path.{◌≡◌, refl, sym, ap, ◌∙◌}
 use mathlib.Core.Bool.{Bool, true, false}
@@ -9,20 +9,19 @@ use borrow.Author.Tests.{eqb-true, eqb-false, leb-true, leb-false, le-leb, lt-le
 use Rattle.field.specs.Bits.{bits}
 use Rattle.field.specs.Handed.{Answers}
 use Rattle.field.proofs.Choices.{float, settled, answers}
-use Rattle.connection.specs.Channel.{channel_at, channel_of, channel_number, number_of, channel_hands}
-use Rattle.connection.specs.Unit.{unit_number, unit_at, unit_of, unit_named}
+use Rattle.connection.specs.Channel.{channel_at, channel_of, channel_number, not_valid, number_of, channel_hands}
+use Rattle.connection.specs.Unit.{unit_number, unit_at, unit_of, unit_named, no_unit}
 use Rattle.connection.specs.Back.{ChannelBack, UnitBack}
 use Rattle.connection.specs.declared.Channel.{Channel}
-use Rattle.connection.specs.declared.NewChannel.{NewChannel}
+use Rattle.connection.specs.declared.InvalidChannel.{InvalidChannel}
 use Rattle.connection.specs.declared.LogicalUnit.{LogicalUnit}
-use Rattle.connection.specs.declared.NewUnit.{NewUnit}
 
 pub channel_number_lem : (n : ℕ) → channel_number (channel_at n) ≡ n
 unfolding channel_at
 channel_number_lem n =
     simp (float channel_number, settled n 0xF (eqb n 0xF) refl, settled n 0xE (eqb n 0xE) refl, settled n 0 (eqb n 0) refl)
 
-pub channel_answer : (valid : ℕ → Bool) (n : ℕ) {r : NewChannel} → r ≡ channel_of valid n → Answers r (channel_of valid n) number_of (channel_hands valid n)
+pub channel_answer : (valid : ℕ → Bool) (n : ℕ) {r : Result Channel InvalidChannel} → r ≡ channel_of valid n → Answers r (channel_of valid n) number_of (channel_hands valid n)
 unfolding channel_of channel_hands
 channel_answer valid n e = answers number_of e (simp (float number_of, channel_number_lem n))
 
@@ -31,7 +30,7 @@ unfolding channel_of
 channel_back valid =
     record { back = λ n c e. by n c (valid n) e; taken = λ n h. rw h; turned_away = λ n h. rw h }
   where
-    by : (n : ℕ) (c : Channel) (b : Bool) → (if b then NewChannel.Valid (channel_at n) else NewChannel.Invalid n) ≡ NewChannel.Valid c → channel_number c ≡ n
+    by : (n : ℕ) (c : Channel) (b : Bool) → (if b then Ok (channel_at n) else Err (not_valid n)) ≡ Ok c → channel_number c ≡ n
     by n c true e =
         let same : channel_at n ≡ c = cc in
         ap channel_number (sym same) ∙ channel_number_lem n
@@ -60,15 +59,15 @@ pub unit_is : (n k : ℕ) → bits 1 0 n ≡ k → unit_at k ≡ unit_of n
 unfolding unit_of
 unit_is n k e = ap unit_at (sym e)
 
-pub unit_taken : (n : ℕ) → n ≤ 3 → unit_named n ≡ NewUnit.Valid (unit_of n)
+pub unit_taken : (n : ℕ) → n ≤ 3 → unit_named n ≡ Ok (unit_of n)
 unfolding unit_named
 unit_taken n h = rw (le-leb n 3 h)
 
-pub unit_turned_away : (n : ℕ) → 3 < n → unit_named n ≡ NewUnit.Invalid
+pub unit_turned_away : (n : ℕ) → 3 < n → unit_named n ≡ Err no_unit
 unfolding unit_named
 unit_turned_away n h = rw (lt-leb n 3 h)
 
-unit_named_lem : (n : ℕ) (u : LogicalUnit) (b : Bool) → leb n 3 ≡ b → unit_named n ≡ NewUnit.Valid u → unit_number u ≡ n
+unit_named_lem : (n : ℕ) (u : LogicalUnit) (b : Bool) → leb n 3 ≡ b → unit_named n ≡ Ok u → unit_number u ≡ n
 unit_named_lem n u true t e =
     let h = leb-true n 3 t in
     let same : unit_of n ≡ u = cc (unit_taken n h) in

@@ -9,12 +9,12 @@ use borrow.Author.Tests.{eq-eqb, ne_eqb, le-leb, lt-leb}
 use lib.Dec.{eqb, leb}
 use Rattle.field.specs.Handed.{Answers}
 use Rattle.field.proofs.Choices.{clash}
-use Rattle.connection.specs.Channel.{channel_at, channel_hands, channel_of, number_of, valid_channel}
-use Rattle.connection.specs.Version.{is_version, last_numbered, valid_by, valid_channel15, valid_in, valid_to, version_of}
+use Rattle.std.specs.Prelude.{Result, Ok, Err}
+use Rattle.connection.specs.Channel.{channel_at, channel_hands, channel_of, not_valid, number_of, valid_channel}
+use Rattle.connection.specs.Version.{is_version, last_numbered, no_version, valid_by, valid_channel15, valid_in, valid_to, version_of}
 use Rattle.connection.specs.Versions.{Inside, NoVersion, Versions}
 use Rattle.connection.specs.declared.Channel.{Channel}
-use Rattle.connection.specs.declared.NewChannel.{NewChannel}
-use Rattle.connection.specs.declared.NewVersion.{NewVersion}
+use Rattle.connection.specs.declared.UnnamedVersion.{UnnamedVersion}
 use Rattle.connection.specs.declared.Version.{Version}
 use Rattle.connection.proofs.Back.{channel_answer}
 
@@ -31,11 +31,11 @@ tested v n l e = e ∙ rw l (ap (λ (valid : ℕ → Bool). valid n) (valid_to_l
 -- from the test and the channel to the answer, over any set of channels
 module _ (valid : ℕ → Bool) (n : ℕ) where
   pub held : {t : Bool} {c : Channel} → t ≡ valid n → t ≡ true → c ≡ channel_at n
-      → Answers (NewChannel.Valid c) (channel_of valid n) number_of (channel_hands valid n)
+      → Answers (Ok c) (channel_of valid n) number_of (channel_hands valid n)
   unfolding channel_of
   held e t c = channel_answer valid n (rw (← e, t, c))
 
-  pub not_held : {t : Bool} → t ≡ valid n → t ≡ false → Answers (NewChannel.Invalid n) (channel_of valid n) number_of (channel_hands valid n)
+  pub not_held : {t : Bool} → t ≡ valid n → t ≡ false → Answers (Err (not_valid n)) (channel_of valid n) number_of (channel_hands valid n)
   unfolding channel_of
   not_held e t = channel_answer valid n (rw (← e, t))
 
@@ -77,9 +77,9 @@ inside_15 n e = ⊎_elim (λ x. sym x ∙ e) (λ b. ((besides n).1 b).0) (which 
 
 -- what a number names
 pub data Naming (b : ℕ) : Type 0 where
-  older : b ≡ 0x51 → version_of b ≡ NewVersion.Named Version.V1_5 → Naming b
-  newer : b ≡ 0x02 → version_of b ≡ NewVersion.Named Version.V2_0 → Naming b
-  none : NoVersion b → version_of b ≡ NewVersion.Unnamed → Naming b
+  older : b ≡ 0x51 → version_of b ≡ Ok Version.V1_5 → Naming b
+  newer : b ≡ 0x02 → version_of b ≡ Ok Version.V2_0 → Naming b
+  none : NoVersion b → version_of b ≡ Err no_version → Naming b
 
 pub naming : (b : ℕ) → Naming b
 unfolding version_of
@@ -91,34 +91,34 @@ naming b = by (ℕ_discrete b 0x51) (ℕ_discrete b 0x02)
     by (no p) (no q) = none (p, q) (rw (ne_eqb b 0x51 p, ne_eqb b 0x02 q))
 
 -- a number for each answer, by which they are told apart
-abbrev place : NewVersion → ℕ
-place (NewVersion.Named Version.V1_5) = 0
-place (NewVersion.Named Version.V2_0) = 1
-place NewVersion.Unnamed = 2
+abbrev place : Result Version UnnamedVersion → ℕ
+place (Ok Version.V1_5) = 0
+place (Ok Version.V2_0) = 1
+place (Err e) = 2
 
-named_older : (b : ℕ) → (version_of b ≡ NewVersion.Named Version.V1_5) ↔ (b ≡ 0x51)
+named_older : (b : ℕ) → (version_of b ≡ Ok Version.V1_5) ↔ (b ≡ 0x51)
 unfolding version_of
 named_older b = (λ e. by (naming b) e, λ e. rw e)
   where
-    by : Naming b → version_of b ≡ NewVersion.Named Version.V1_5 → b ≡ 0x51
+    by : Naming b → version_of b ≡ Ok Version.V1_5 → b ≡ 0x51
     by (older p q) e = p
     by (newer p q) e = absurd (omega (arith, ap place (sym q ∙ e)))
     by (none p q) e = absurd (omega (arith, ap place (sym q ∙ e)))
 
-named_newer : (b : ℕ) → (version_of b ≡ NewVersion.Named Version.V2_0) ↔ (b ≡ 0x02)
+named_newer : (b : ℕ) → (version_of b ≡ Ok Version.V2_0) ↔ (b ≡ 0x02)
 unfolding version_of
 named_newer b = (λ e. by (naming b) e, λ e. rw e)
   where
-    by : Naming b → version_of b ≡ NewVersion.Named Version.V2_0 → b ≡ 0x02
+    by : Naming b → version_of b ≡ Ok Version.V2_0 → b ≡ 0x02
     by (older p q) e = absurd (omega (arith, ap place (sym q ∙ e)))
     by (newer p q) e = p
     by (none p q) e = absurd (omega (arith, ap place (sym q ∙ e)))
 
-named_none : (b : ℕ) → (version_of b ≡ NewVersion.Unnamed) ↔ NoVersion b
+named_none : (b : ℕ) → (version_of b ≡ Err no_version) ↔ NoVersion b
 unfolding version_of
 named_none b = (λ e. by (naming b) e, λ n. rw (ne_eqb b 0x51 n.0, ne_eqb b 0x02 n.1))
   where
-    by : Naming b → version_of b ≡ NewVersion.Unnamed → NoVersion b
+    by : Naming b → version_of b ≡ Err no_version → NoVersion b
     by (older p q) e = absurd (omega (arith, ap place (sym q ∙ e)))
     by (newer p q) e = absurd (omega (arith, ap place (sym q ∙ e)))
     by (none p q) e = p
@@ -137,9 +137,9 @@ versions =
     }
 
 -- by a number that names a version, its valid channels are the version's
-pub named : (b : ℕ) (v : Version) → NewVersion.Named v ≡ version_of b → (is_version b ≡ true) × (valid_by b ≡ valid_in v)
+pub named : (b : ℕ) (v : Version) → Ok v ≡ version_of b → (is_version b ≡ true) × (valid_by b ≡ valid_in v)
 named b Version.V1_5 e = let p = (named_older b).0 (sym e) in (rw p, rw p)
 named b Version.V2_0 e = let p = (named_newer b).0 (sym e) in (rw p, rw p)
 
-pub unnamed : (b : ℕ) → NewVersion.Unnamed ≡ version_of b → is_version b ≡ false
+pub unnamed : (b : ℕ) → Err no_version ≡ version_of b → is_version b ≡ false
 unnamed b e = let n = (named_none b).0 (sym e) in rw (ne_eqb b 0x51 n.0, ne_eqb b 0x02 n.1)

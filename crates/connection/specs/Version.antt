@@ -1,9 +1,9 @@
 -- Versions of the standard, which differ in the valid channels (section 6.3, table 6-1): 1h to 7h are numbered in IPMI 1.5, where 8h to Dh are
 -- reserved, and 1h to Bh in 2.0. A caller names one by its number in Get Device ID (section 20.1, IPMI version), whose low digit comes first: 51h
 -- is 1.5, and 02h is 2.0. Assumes nothing.
-use Rattle.std.specs.Prelude.{ℕ, Bool, ◌||◌, eqb, leb, if◌then◌else◌}
+use Rattle.std.specs.Prelude.{ℕ, Bool, ◌||◌, Result, Ok, Err, eqb, leb, if◌then◌else◌}
 use Rattle.connection.specs.Channel.{valid_channel}
-use Rattle.connection.specs.declared.NewVersion.{NewVersion}
+use Rattle.connection.specs.declared.UnnamedVersion.{UnnamedVersion}
 use Rattle.connection.specs.declared.Version.{Version}
 
 -- the valid channels of IPMI 1.5
@@ -28,12 +28,15 @@ is_version b = eqb b ipmi15 || eqb b ipmi20
 abbrev pub valid_by : ℕ → ℕ → Bool
 valid_by b = if eqb b ipmi15 then valid_channel15 else valid_channel
 
--- the same, as the code's own enum has them
-unfoldable pub version_of : ℕ → NewVersion
+abbrev pub no_version : UnnamedVersion
+no_version = record {}
+
+-- the same, as the code has them
+unfoldable pub version_of : ℕ → Result Version UnnamedVersion
 version_of b =
-    if eqb b ipmi15 then NewVersion.Named Version.V1_5 else
-    if eqb b ipmi20 then NewVersion.Named Version.V2_0 else
-    NewVersion.Unnamed
+    if eqb b ipmi15 then Ok Version.V1_5 else
+    if eqb b ipmi20 then Ok Version.V2_0 else
+    Err no_version
 
 abbrev pub valid_in : Version → ℕ → Bool
 valid_in Version.V1_5 = valid_channel15

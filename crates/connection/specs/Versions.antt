@@ -1,9 +1,8 @@
 -- What the two versions of the standard differ in, and which numbers name them. Assumes nothing.
-use Rattle.std.specs.Prelude.{ℕ, ◌≤◌, ◌≡◌, Bool, true, false, ◌↔◌}
+use Rattle.std.specs.Prelude.{ℕ, ◌≤◌, ◌≡◌, Bool, true, false, ◌↔◌, Ok, Err}
 use Rattle.field.specs.Handed.{Handed, unnamed_version}
 use Rattle.connection.specs.Channel.{valid_channel}
-use Rattle.connection.specs.Version.{valid_channel15, version_of}
-use Rattle.connection.specs.declared.NewVersion.{NewVersion}
+use Rattle.connection.specs.Version.{no_version, valid_channel15, version_of}
 use Rattle.connection.specs.declared.Version.{Version}
 
 -- a number that names no version
@@ -22,9 +21,9 @@ pub record Versions : Type 0 where
   pub inside : Inside valid_channel15 valid_channel
   pub besides : (n : ℕ) → ((valid_channel n ≡ true) × (valid_channel15 n ≡ false)) ↔ ((0x8 ≤ n) × (n ≤ 0xB))
   -- 51h names 1.5, 02h names 2.0, and no other number names a version
-  pub older : (b : ℕ) → (version_of b ≡ NewVersion.Named Version.V1_5) ↔ (b ≡ 0x51)
-  pub newer : (b : ℕ) → (version_of b ≡ NewVersion.Named Version.V2_0) ↔ (b ≡ 0x02)
-  pub unnamed : (b : ℕ) → (version_of b ≡ NewVersion.Unnamed) ↔ NoVersion b
+  pub older : (b : ℕ) → (version_of b ≡ Ok Version.V1_5) ↔ (b ≡ 0x51)
+  pub newer : (b : ℕ) → (version_of b ≡ Ok Version.V2_0) ↔ (b ≡ 0x02)
+  pub unnamed : (b : ℕ) → (version_of b ≡ Err no_version) ↔ NoVersion b
 
 -- row 11 comes first: a number that names no version is refused, and the other rows are those of the version that it names, by its valid channels
 pub data VersionNamed (b : ℕ) (Row : (ℕ → Bool) → Handed → Type 0) : Handed → Type 0 where

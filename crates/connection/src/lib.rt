@@ -8,32 +8,33 @@ ghost use Rattle.connection.specs.Unit.{unit_named, unit_number, unit_of};
 ghost use Rattle.connection.specs.Version.{last_numbered, valid_in, valid_to, version_of};
 
 // The versions of the standard that are told apart: they differ in the valid channels.
-#[derive(Clone, Copy)]
+#[derive(Clone, Copy, Debug, PartialEq, Eq)]
 pub enum Version {
     V1_5,
     V2_0,
 }
 
-// What `Version::from_byte` answers.
-#[derive(Clone, Copy)]
-pub enum NewVersion {
-    Named(Version),
-    Unnamed,
+// A number that names no version.
+#[derive(Clone, Copy, Debug, PartialEq, Eq)]
+pub struct UnnamedVersion;
+
+// By the number that Get Device ID gives it. That of Get SEL Info is another: it is 51h under 2.0 too.
+impl TryFrom<u8> for Version {
+    type Error = UnnamedVersion;
+
+    ghost try_from_gives = { λ value r. r ≡ version_of value };
+
+    #[tactic(auto, unfolding(crate::specs::Version::version_of))]
+    fn try_from(value: u8) -> Result<Version, UnnamedVersion> {
+        match value {
+            0x51 => Ok(Version::V1_5),
+            0x02 => Ok(Version::V2_0),
+            _ => Err(UnnamedVersion),
+        }
+    }
 }
 
 impl Version {
-    // By the number that Get Device ID gives it. That of Get SEL Info is another: it is 51h under 2.0 too.
-    #[tactic(auto, unfolding(crate::specs::Version::version_of))]
-    pub fn from_byte(value: u8) -> NewVersion
-        ensures { result ≡ version_of value }
-    {
-        match value {
-            0x51 => NewVersion::Named(Version::V1_5),
-            0x02 => NewVersion::Named(Version::V2_0),
-            _ => NewVersion::Unnamed,
-        }
-    }
-
     // The last numbered channel, which is all that the versions differ in.
     pub fn last_numbered(self) -> u8
         ensures { result ≡ last_numbered self }
@@ -46,11 +47,11 @@ impl Version {
 }
 
 // The number of a numbered channel, 1h to Bh.
-#[derive(Clone, Copy)]
+#[derive(Clone, Copy, Debug, PartialEq, Eq)]
 pub struct ChannelNumber(u8);
 
 // The channel on which a module or sensor is present.
-#[derive(Clone, Copy)]
+#[derive(Clone, Copy, Debug, PartialEq, Eq)]
 pub enum Channel {
     Primary,
     Numbered(ChannelNumber),
@@ -58,41 +59,32 @@ pub enum Channel {
     Current,
 }
 
-// What `Channel::new` answers.
-#[derive(Clone, Copy)]
-pub enum NewChannel {
-    Valid(Channel),
-    Invalid(u8),
-}
+// A number that names no channel.
+#[derive(Clone, Copy, Debug, PartialEq, Eq)]
+pub struct InvalidChannel(pub u8);
 
 // Whether a number names a channel, where the numbered ones end at `last`: the one test of it.
 #[tactic(auto, unfolding(crate::specs::Version::valid_to))]
 pub fn is_channel_to(last: u8, value: u8) -> bool
     ensures { result ≡ valid_to last value }
 {
-    if value <= last {
-        return true;
-    }
-    if value == 0xE {
-        return true;
-    }
-    value == 0xF
+    value <= last || value == 0xE || value == 0xF
 }
 
 impl Channel {
-    pub fn new(value: u8) -> NewChannel
+    pub fn new(value: u8) -> Result<Channel, InvalidChannel>
         ensures { Answers result (channel_of valid_channel value) number_of (channel_hands valid_channel value) }
     {
         Channel::new_in(Version::V2_0, value)
     }
 
-    pub fn new_in(version: Version, value: u8) -> NewChannel
+    pub fn new_in(version: Version, value: u8) -> Result<Channel, InvalidChannel>
         ensures { Answers result (channel_of (valid_in version) value) number_of (channel_hands (valid_in version) value) }
     {
         if is_channel_to(version.last_numbered(), value) {
-            return NewChannel::Valid(Channel::named(value));
+            return Ok(Channel::named(value));
         }
-        NewChannel::Invalid(value)
+        Err(InvalidChannel(value))
     }
 
     // The channel that a valid number names.
@@ -121,7 +113,7 @@ impl Channel {
 }
 
 // The logical unit of a module or sensor.
-#[derive(Clone, Copy)]
+#[derive(Clone, Copy, Debug, PartialEq, Eq)]
 pub enum LogicalUnit {
     Zero,
     One,
@@ -129,12 +121,9 @@ pub enum LogicalUnit {
     Three,
 }
 
-// What `LogicalUnit::new` answers.
-#[derive(Clone, Copy)]
-pub enum NewUnit {
-    Valid(LogicalUnit),
-    Invalid,
-}
+// A number over 3.
+#[derive(Clone, Copy, Debug, PartialEq, Eq)]
+pub struct InvalidUnit;
 
 impl LogicalUnit {
     // The unit in the two lowest bits; the others are not looked at.
@@ -150,21 +139,27 @@ impl LogicalUnit {
             _ => LogicalUnit::Three,
         }
     }
+}
+
+impl TryFrom<u8> for LogicalUnit {
+    type Error = InvalidUnit;
+
+    ghost try_from_gives = { λ value r. r ≡ unit_named value };
 
     #[tactic(auto, unfolding(crate::specs::Unit::unit_named))]
-    pub fn new(value: u8) -> NewUnit
-        ensures { result ≡ unit_named value }
-    {
+    fn try_from(value: u8) -> Result<LogicalUnit, InvalidUnit> {
         if value <= 3 {
-            return NewUnit::Valid(LogicalUnit::from_low_bits(value));
+            return Ok(LogicalUnit::from_low_bits(value));
         }
-        NewUnit::Invalid
+        Err(InvalidUnit)
     }
+}
 
-    pub fn value(self) -> u8
-        ensures { result ≡ unit_number self }
-    {
-        match self {
+impl From<LogicalUnit> for u8 {
+    ghost from_gives = { λ unit n. n ≡ unit_number unit };
+
+    fn from(unit: LogicalUnit) -> u8 {
+        match unit {
             LogicalUnit::Zero => 0,
             LogicalUnit::One => 1,
             LogicalUnit::Two => 2,

@@ -8,11 +8,12 @@ ghost use Rattle.text.specs.Text.{Put};
 ghost use Rattle.flat_form.specs.Form.{Gives, from_written, refusal, said, taken, unasked};
 
 use field::numbers::{NO_QUESTION, NO_RESERVATION, NO_ROOM, TOO_LONG, TOO_SHORT};
-use text::Written;
+use text::NoRoom;
 
-// What the writer of a flat form answers: the number, and what it carries: 0 the bytes written, 4 those needed, a refusal its value.
+// What the writer of a flat form answers, a number in place of a Result, since C reads it: the number, and what it carries: 0 the bytes written, 4 those
+// needed, a refusal its value.
 #[repr(C)]
-#[derive(Clone, Copy)]
+#[derive(Clone, Copy, Debug, PartialEq, Eq)]
 pub struct SelAnswer {
     pub number: u32,
     pub value: usize,
@@ -67,16 +68,10 @@ pub fn no_reservation() -> SelAnswer
 pub fn ported(number: u32, value: usize) -> SelAnswer
     ensures { result ≡ refusal (ported (handed number (value ∷ []))) }
 {
-    if number == TOO_SHORT {
-        return refused(TOO_SHORT, 0);
+    match number {
+        TOO_SHORT | TOO_LONG | NO_RESERVATION => refused(TOO_SHORT, 0),
+        _ => refused(number, value),
     }
-    if number == TOO_LONG {
-        return refused(TOO_SHORT, 0);
-    }
-    if number == NO_RESERVATION {
-        return refused(TOO_SHORT, 0);
-    }
-    refused(number, value)
 }
 
 // The bytes are no question of the kind that was asked.
@@ -87,12 +82,12 @@ pub fn no_question() -> SelAnswer
 }
 
 // What a text's writer answered, as the answer of the flat form.
-pub fn of_written(w: Written) -> SelAnswer
+pub fn of_written(w: Result<usize, NoRoom>) -> SelAnswer
     ensures { result ≡ from_written w }
 {
     match w {
-        Written::Length(n) => written(n),
-        Written::NoRoom(n) => no_room(n),
+        Ok(n) => written(n),
+        Err(NoRoom(n)) => no_room(n),
     }
 }
 
@@ -100,8 +95,7 @@ pub fn of_written(w: Written) -> SelAnswer
 pub fn write(bytes: &[u8], out: &mut [u8]) -> SelAnswer
     ensures { Gives (taken bytes.now) out.old result out.new }
 {
-    let w = text::write(bytes, out);
-    of_written(w)
+    of_written(text::write(bytes, out))
 }
 
 // Puts a number as two bytes, or as four.
@@ -109,14 +103,12 @@ pub fn put_le16(n: u16, out: &mut [u8], at: usize) -> usize
     requires { at + 2 ≤ length out.old }
     ensures { Put out.old out.new at result (le_bytes 2 n) }
 {
-    let next = text::put_byte((n % 256) as u8, out, at);
-    text::put_byte((n / 256) as u8, out, next)
+    text::put(&n.to_le_bytes(), out, at)
 }
 
 pub fn put_le32(n: u32, out: &mut [u8], at: usize) -> usize
     requires { at + 4 ≤ length out.old }
     ensures { Put out.old out.new at result (le_bytes 4 n) }
 {
-    let next = put_le16((n % 65536) as u16, out, at);
-    put_le16((n / 65536) as u16, out, next)
+    text::put(&n.to_le_bytes(), out, at)
 }

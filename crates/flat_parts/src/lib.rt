@@ -5,16 +5,17 @@ ghost use Rattle.flat_form.specs.Form.{Gives};
 ghost use Rattle.flat_parts.specs.Parts.{part_flat, part_of, reads_flat};
 
 use field::numbers::{NO_BYTES, NO_SUCH_PART, UNRESERVED};
-use flat_form::{SelAnswer, of_written, refused};
+use flat_form::{SelAnswer, no_room, refused, written};
 use ids::{RecordId, ReservationId};
-use partial::{GetEntryPart, PartAnswer, ReadsAnswer};
+use partial::{GetEntryPart, PartError, ReadsError};
 
 pub fn reads(m: u8, out: &mut [u8]) -> SelAnswer
     ensures { Gives (reads_flat m) out.old result out.new }
 {
     match partial::reads(m, out) {
-        ReadsAnswer::Wrote(w) => of_written(w),
-        ReadsAnswer::NoBytes => refused(NO_BYTES, 0),
+        Ok(n) => written(n),
+        Err(ReadsError::NoBytes) => refused(NO_BYTES, 0),
+        Err(ReadsError::NoRoom(n)) => no_room(n),
     }
 }
 
@@ -34,8 +35,9 @@ pub fn request(
         bytes_to_read,
     };
     match part.write_request(out) {
-        PartAnswer::Wrote(w) => of_written(w),
-        PartAnswer::Unreserved => refused(UNRESERVED, 0),
-        PartAnswer::NoSuchPart => refused(NO_SUCH_PART, 0),
+        Ok(n) => written(n),
+        Err(PartError::Unreserved) => refused(UNRESERVED, 0),
+        Err(PartError::NoSuchPart) => refused(NO_SUCH_PART, 0),
+        Err(PartError::NoRoom(n)) => no_room(n),
     }
 }

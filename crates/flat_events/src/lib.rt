@@ -5,9 +5,9 @@ ghost use Rattle.flat_form.specs.Form.{Gives};
 ghost use Rattle.flat_events.specs.Events.{beside_of, message_flat, record_flat};
 
 use field::numbers::{INVALID_CHANNEL, UNKNOWN_TYPE};
-use flat_form::{SelAnswer, of_written, refused, too_long, too_short};
+use flat_form::{SelAnswer, no_room, refused, too_long, too_short, written};
 use ids::RecordId;
-use platform_event::{Beside, MessageAnswer, RecordAnswer};
+use platform_event::{Beside, MessageError, RecordError};
 use storage::Timestamp;
 
 pub fn to_record(
@@ -22,15 +22,16 @@ pub fn to_record(
 {
     let beside = Beside {
         record_id: RecordId::new_raw(record_id),
-        timestamp: Timestamp::from_u32(time),
+        timestamp: Timestamp::from(time),
         generator1,
         generator2,
     };
     match platform_event::write_record(message, beside, out) {
-        RecordAnswer::Wrote(w) => of_written(w),
-        RecordAnswer::TooShort(n) => too_short(n),
-        RecordAnswer::TooLong => too_long(),
-        RecordAnswer::InvalidChannel(n) => refused(INVALID_CHANNEL, n as usize),
+        Ok(n) => written(n),
+        Err(RecordError::TooShort(n)) => too_short(n),
+        Err(RecordError::TooLong) => too_long(),
+        Err(RecordError::InvalidChannel(n)) => refused(INVALID_CHANNEL, n as usize),
+        Err(RecordError::NoRoom(n)) => no_room(n),
     }
 }
 
@@ -38,8 +39,9 @@ pub fn to_message(record: &[u8], out: &mut [u8]) -> SelAnswer
     ensures { Gives (message_flat «record».now) out.old result out.new }
 {
     match platform_event::write_message(record, out) {
-        MessageAnswer::Wrote(w) => of_written(w),
-        MessageAnswer::TooShort(n) => too_short(n),
-        MessageAnswer::OtherType(ty) => refused(UNKNOWN_TYPE, ty as usize),
+        Ok(n) => written(n),
+        Err(MessageError::TooShort(n)) => too_short(n),
+        Err(MessageError::OtherType(ty)) => refused(UNKNOWN_TYPE, ty as usize),
+        Err(MessageError::NoRoom(n)) => no_room(n),
     }
 }

@@ -1,4 +1,5 @@
 -- The theorem of specs/Counts.antt: neither the number nor the flat bytes look further. Assumes nothing.
+use Rattle.std.specs.Prelude.{Option, Ok}
 use Prim.Native.Nat.{ℕ}
 use mathlib.Core.Path.{◌≡◌, refl, sym, subst, ◌∙◌}
 use mathlib.Core.List.{List, ◌++◌}
@@ -7,7 +8,6 @@ use Rattle.field.proofs.Parts.{each, front}
 use Rattle.connection.specs.Channel.{valid_channel}
 use Rattle.answers.specs.Length.{bytes_that_count, length_answer}
 use Rattle.answers.specs.declared.AnswerKind.{AnswerKind}
-use Rattle.answers.specs.declared.LengthAnswer.{LengthAnswer}
 use Rattle.answers.proofs.BytesThatCount.{bytes_that_count_lem}
 use Rattle.flat_record.specs.Records.{plain_flat, record_flat, stamped_flat, system_flat}
 use Rattle.flat.specs.Counts.{FlatCounts}
@@ -25,7 +25,7 @@ reads AnswerKind.Allocation s = refl
 reads AnswerKind.Reserve s = refl
 reads AnswerKind.Clear s = refl
 
-same : (kind : AnswerKind) (s : List ℕ) → length_answer kind (length s) ≡ LengthAnswer.MayBeRead → answer_flat kind (take (bytes_that_count kind) s) ≡ answer_flat kind s
+same : (kind : AnswerKind) (s : List ℕ) → length_answer kind (length s) ≡ Ok tt → answer_flat kind (take (bytes_that_count kind) s) ≡ answer_flat kind s
 same kind s e =
     let counts = bytes_that_count_lem valid_channel kind s in
     let d = decides kind in
@@ -34,4 +34,4 @@ same kind s e =
 
 pub flat_counts : (letter : ℕ) (kind : AnswerKind) (s : List ℕ) → FlatCounts letter kind s
 flat_counts letter kind s =
-    record { same = λ k e. subst (λ (x : Kind). flat_by x (take (bytes_that_count kind) s) ≡ flat_by x s) (sym k) (same kind s e) }
+    record { same = λ k e. subst (λ (x : Option Kind). flat_by x (take (bytes_that_count kind) s) ≡ flat_by x s) (sym k) (same kind s e) }

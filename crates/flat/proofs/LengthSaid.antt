@@ -1,5 +1,5 @@
 -- What is said of a length is what its answer comes to in the flat form, whatever output is lent. Assumes nothing.
-use Rattle.std.specs.Prelude.{if◌then◌else◌}
+use Rattle.std.specs.Prelude.{if◌then◌else◌, Option, Some, None}
 use Prim.Native.Nat.{ℕ}
 use mathlib.Core.Path.{◌≡◌, sym, ap, ◌∙◌}
 use mathlib.Core.Bool.{Bool, true, false}
@@ -11,9 +11,8 @@ use lib.ListN.{length}
 use Rattle.field.specs.Bits.{byte_at, le32_at}
 use Rattle.field.specs.Handed.{Handed}
 use Rattle.field.specs.Placed.{placed}
-use Rattle.answers.specs.Length.{length_answer, length_hands, number_of}
+use Rattle.answers.specs.Length.{length_answer, length_hands, number_of, LengthAnswer}
 use Rattle.answers.specs.declared.AnswerKind.{AnswerKind}
-use Rattle.answers.specs.declared.LengthAnswer.{LengthAnswer}
 use Rattle.flat_form.specs.Form.{Flat, Gives, decided, flat_answer, no_question, refused, taken}
 use Rattle.flat_form.specs.declared.SelAnswer.{SelAnswer}
 use Rattle.flat_form.proofs.Laws.{gives_refusal}
@@ -45,13 +44,13 @@ module _ (out : List ℕ) where
   by_letter : (letter n : ℕ) {r : SelAnswer} → r ≡ flat_answer (length_of letter n) [] → Gives (length_of letter n) out r out
   by_letter letter n {r} = by (kind_of letter)
     where
-      of : Kind → Flat
+      of : Option Kind → Flat
       of kind = of_answer (λ k. decided (length_hands k n) []) no_question kind
 
-      by : (kind : Kind) → r ≡ flat_answer (of kind) [] → Gives (of kind) out r out
-      by (Kind.Answer kind) e = by_decided (length_hands kind n) e
-      by (Kind.Other question) e = gives_refusal e
-      by Kind.NoKind e = gives_refusal e
+      by : (kind : Option Kind) → r ≡ flat_answer (of kind) [] → Gives (of kind) out r out
+      by (Some (Kind.Answer kind)) e = by_decided (length_hands kind n) e
+      by (Some (Kind.Other question)) e = gives_refusal e
+      by None e = gives_refusal e
 
   pub length_gives : (s : List ℕ) {r : SelAnswer} → r ≡ flat_answer (length_flat s) [] → Gives (length_flat s) out r out
   unfolding length_flat

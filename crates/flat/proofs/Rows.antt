@@ -1,4 +1,5 @@
 -- The theorem of specs/Rows.antt, from the rows of the table of numbers. Assumes nothing.
+use Rattle.std.specs.Prelude.{Option, Some}
 use Prim.Native.Nat.{ℕ, ◌≤◌, ◌<◌}
 use mathlib.Core.Path.{◌≡◌, refl, sym, ap, ◌∙◌}
 use mathlib.Core.List.{List, ◌++◌}
@@ -37,8 +38,8 @@ decides AnswerKind.Allocation = (_, λ s. refl)
 decides AnswerKind.Reserve = (_, λ s. refl)
 decides AnswerKind.Clear = (_, λ s. refl)
 
-pub by_number : (letter : ℕ) {kind : AnswerKind} (s : List ℕ) → kind_of letter ≡ Kind.Answer kind → flat_of letter s ≡ decided (hands_of valid_channel kind s) ((decides kind).0 s)
-by_number letter {kind} s k = ap (λ (x : Kind). flat_by x s) k ∙ (decides kind).1 s
+pub by_number : (letter : ℕ) {kind : AnswerKind} (s : List ℕ) → kind_of letter ≡ Some (Kind.Answer kind) → flat_of letter s ≡ decided (hands_of valid_channel kind s) ((decides kind).0 s)
+by_number letter {kind} s k = ap (λ (x : Option Kind). flat_by x s) k ∙ (decides kind).1 s
 
 pub is_refused : (h : Handed) (flat : List ℕ) → (h.number ≡ 0 → ⊥) → decided h flat ≡ refused h
 unfolding decided

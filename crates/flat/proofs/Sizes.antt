@@ -1,5 +1,5 @@
 -- The theorem of specs/Sizes.antt: the flat bytes of each kind are counted. Assumes nothing.
-use Rattle.std.specs.Prelude.{if◌then◌else◌}
+use Rattle.std.specs.Prelude.{if◌then◌else◌, Option, Some, None}
 use Prim.Native.Nat.{ℕ, ◌≤◌}
 use mathlib.Core.Path.{◌≡◌, refl, subst}
 use mathlib.Core.Bool.{Bool, true, false}
@@ -124,36 +124,36 @@ answer_fits AnswerKind.Clear s = decided_has _ _ _ (λ z. omega arith)
 length_fits : (letter n : ℕ) → Fits flat_room (length_of letter n)
 length_fits letter n = by (kind_of letter)
   where
-    by : (kind : Kind) → Fits flat_room (of_answer (λ k. decided (length_hands k n) []) no_question kind)
-    by (Kind.Answer kind) = decided_has _ _ _ (λ z. omega arith)
-    by (Kind.Other question) = tt
-    by Kind.NoKind = tt
+    by : (kind : Option Kind) → Fits flat_room (of_answer (λ k. decided (length_hands k n) []) no_question kind)
+    by (Some (Kind.Answer kind)) = decided_has _ _ _ (λ z. omega arith)
+    by (Some (Kind.Other question)) = tt
+    by None = tt
 
 -- any kind: what is known of the bytes is asked for only where the kind is a text
 module _ (s : List ℕ) where
-  kind_fits : (kind : Kind) → (is_text kind ≡ true → Bytes (length s) s) → Fits (if is_text kind then event_room else flat_room) (flat_by kind s)
+  kind_fits : (kind : Option Kind) → (is_text kind ≡ true → Bytes (length s) s) → Fits (if is_text kind then event_room else flat_room) (flat_by kind s)
   unfolding behind_version entry_flat_of get_entry_flat_of length_flat record_part_flat event_data_flat typed_data_flat typed_data_text_flat record_id_flat id_flat request_flat entry_text_flat event_data_text_flat event_text_flat time_text_flat log_time_text_flat
-  kind_fits (Kind.Answer kind) bs = answer_fits kind s
-  kind_fits (Kind.Other Question.EntryText) bs =
+  kind_fits (Some (Kind.Answer kind)) bs = answer_fits kind s
+  kind_fits (Some (Kind.Other Question.EntryText)) bs =
       decided_has _ _ _ (λ z. either (λ (l : List ℕ). length l ≤ event_room) (eqb (type_at s) 0x02) _ _ (event_length _ _ _) (omega arith))
-  kind_fits (Kind.Other Question.RecordPart) bs = omega (arith, part_short s)
-  kind_fits (Kind.Other Question.EntryOf) bs =
+  kind_fits (Some (Kind.Other Question.RecordPart)) bs = omega (arith, part_short s)
+  kind_fits (Some (Kind.Other Question.EntryOf)) bs =
       either (Fits flat_room) (eqb (length s) 0) _ _ tt (decided_has _ _ _ (λ z. omega (arith, record_short (drop 1 s))))
-  kind_fits (Kind.Other Question.GetEntryOf) bs =
+  kind_fits (Some (Kind.Other Question.GetEntryOf)) bs =
       either (Fits flat_room) (eqb (length s) 0) _ _ tt (decided_has _ _ _ (λ z. omega (arith, record_short (drop 2 (drop 1 s)))))
-  kind_fits (Kind.Other Question.EventData) bs = either (Fits flat_room) (eqb (length s) 3) _ _ (omega arith) tt
-  kind_fits (Kind.Other Question.EventDataText) bs = either (Fits event_room) (eqb (length s) 3) _ _ (omega (arith, data_short s ((bs refl).each 1) ((bs refl).each 2))) tt
-  kind_fits (Kind.Other Question.TypedData) bs = either (Fits flat_room) (eqb (length s) 4) _ _ (omega arith) tt
-  kind_fits (Kind.Other Question.TypedDataText) bs =
+  kind_fits (Some (Kind.Other Question.EventData)) bs = either (Fits flat_room) (eqb (length s) 3) _ _ (omega arith) tt
+  kind_fits (Some (Kind.Other Question.EventDataText)) bs = either (Fits event_room) (eqb (length s) 3) _ _ (omega (arith, data_short s ((bs refl).each 1) ((bs refl).each 2))) tt
+  kind_fits (Some (Kind.Other Question.TypedData)) bs = either (Fits flat_room) (eqb (length s) 4) _ _ (omega arith) tt
+  kind_fits (Some (Kind.Other Question.TypedDataText)) bs =
       either (Fits event_room) (eqb (length s) 4) _ _ (omega (arith, typed_short (byte_at s 0) (byte_at s 1 ∷ byte_at s 2 ∷ byte_at s 3 ∷ []) ((bs refl).each 2) ((bs refl).each 3))) tt
-  kind_fits (Kind.Other Question.Length) bs = either (Fits flat_room) (eqb (length s) 5) _ _ (length_fits (byte_at s 0) (le32_at s 1)) tt
-  kind_fits (Kind.Other Question.EventText) bs = either (Fits event_room) (eqb (length s) 3) _ _ (event_length _ _ _) tt
-  kind_fits (Kind.Other Question.TimeText) bs = either (Fits event_room) (eqb (length s) 4) _ _ (omega (arith, (time_at s 0 (bs refl).each).ported)) tt
-  kind_fits (Kind.Other Question.LogTimeText) bs = either (Fits event_room) (eqb (length s) 4) _ _ (omega (arith, (time_at s 0 (bs refl).each).log)) tt
-  kind_fits (Kind.Other Question.RecordId) bs = either (Fits flat_room) (eqb (length s) 2) _ _ (omega arith) tt
-  kind_fits (Kind.Other Question.Request) bs =
+  kind_fits (Some (Kind.Other Question.Length)) bs = either (Fits flat_room) (eqb (length s) 5) _ _ (length_fits (byte_at s 0) (le32_at s 1)) tt
+  kind_fits (Some (Kind.Other Question.EventText)) bs = either (Fits event_room) (eqb (length s) 3) _ _ (event_length _ _ _) tt
+  kind_fits (Some (Kind.Other Question.TimeText)) bs = either (Fits event_room) (eqb (length s) 4) _ _ (omega (arith, (time_at s 0 (bs refl).each).ported)) tt
+  kind_fits (Some (Kind.Other Question.LogTimeText)) bs = either (Fits event_room) (eqb (length s) 4) _ _ (omega (arith, (time_at s 0 (bs refl).each).log)) tt
+  kind_fits (Some (Kind.Other Question.RecordId)) bs = either (Fits flat_room) (eqb (length s) 2) _ _ (omega arith) tt
+  kind_fits (Some (Kind.Other Question.Request)) bs =
       either (Fits flat_room) (eqb (length s) (question_length (byte_at s 0))) _ _ (request_fits flat_room (omega arith) _ _ _) tt
-  kind_fits Kind.NoKind bs = tt
+  kind_fits None bs = tt
 
 pub sizes : Sizes
 sizes =

@@ -1,5 +1,5 @@
 -- What a question of each kind comes to in the flat form (docs/SCOPE.md, "The flat form"). Assumes nothing.
-use Rattle.std.specs.Prelude.{ℕ, List}
+use Rattle.std.specs.Prelude.{ℕ, List, Option, Some, None}
 use Rattle.answers.specs.declared.AnswerKind.{AnswerKind}
 use Rattle.flat_form.specs.Form.{Flat, no_question}
 use Rattle.flat_record.specs.Event.{event_data_flat, typed_data_flat}
@@ -37,10 +37,10 @@ other_flat Question.LogTimeText s = log_time_text_flat s
 other_flat Question.RecordId s = record_id_flat s
 other_flat Question.Request s = request_flat s
 
-abbrev pub flat_by : Kind → List ℕ → Flat
-flat_by (Kind.Answer kind) s = answer_flat kind s
-flat_by (Kind.Other question) s = other_flat question s
-flat_by Kind.NoKind s = no_question
+abbrev pub flat_by : Option Kind → List ℕ → Flat
+flat_by (Some (Kind.Answer kind)) s = answer_flat kind s
+flat_by (Some (Kind.Other question)) s = other_flat question s
+flat_by None s = no_question
 
 -- by the letter of the kind
 abbrev pub flat_of : ℕ → List ℕ → Flat

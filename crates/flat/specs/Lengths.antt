@@ -1,5 +1,5 @@
 -- What a letter and a length decide (docs/SCOPE.md, "The flat form"): before there is a byte of the answer. Assumes nothing.
-use Rattle.std.specs.Prelude.{ℕ, List, [], eqb, length, if◌then◌else◌}
+use Rattle.std.specs.Prelude.{ℕ, List, [], eqb, length, if◌then◌else◌, Option, Some, None}
 use Rattle.field.specs.Bits.{byte_at, le32_at}
 use Rattle.answers.specs.Length.{length_hands}
 use Rattle.answers.specs.declared.AnswerKind.{AnswerKind}
@@ -9,10 +9,10 @@ use Rattle.flat.specs.Letters.{kind_of}
 use Rattle.flat.specs.declared.Kind.{Kind}
 
 -- what belongs to the kind of answer that a letter names; `none` where it names no answer
-abbrev pub of_answer : {A : Type 0} → (AnswerKind → A) → A → Kind → A
-of_answer of none (Kind.Answer kind) = of kind
-of_answer of none (Kind.Other question) = none
-of_answer of none Kind.NoKind = none
+abbrev pub of_answer : {A : Type 0} → (AnswerKind → A) → A → Option Kind → A
+of_answer of none (Some (Kind.Answer kind)) = of kind
+of_answer of none (Some (Kind.Other question)) = none
+of_answer of none None = none
 
 -- nothing, where an answer of that length may be read, or the refusal of all of them
 abbrev pub length_of : ℕ → ℕ → Flat

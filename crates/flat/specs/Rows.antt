@@ -1,7 +1,7 @@
 -- The table of numbers (docs/SCOPE.md, "Numbers handed back") as one statement about one function: every answer of any length, asked by the letter
 -- of any kind of answer, is refused by `flat` exactly where the table refuses it, by that number and with what it carries; else its flat bytes are
 -- written, or 4 says how much room they need. Only what is written touches the output. Assumes nothing.
-use Rattle.std.specs.Prelude.{ℕ, ◌≤◌, ◌<◌, ◌≡◌, List, [], ◌++◌, ◌↔◌, length, drop}
+use Rattle.std.specs.Prelude.{ℕ, ◌≤◌, ◌<◌, ◌≡◌, List, [], ◌++◌, ◌↔◌, length, drop, Some}
 use Rattle.field.specs.Handed.{Handed, handed}
 use Rattle.connection.specs.Channel.{valid_channel}
 use Rattle.answers.specs.Rows.{Row}
@@ -14,7 +14,7 @@ use Rattle.flat.specs.declared.Kind.{Kind}
 
 -- the letter names that kind of answer, and r is what is given of the bytes s
 abbrev pub Asked : ℕ → AnswerKind → List ℕ → List ℕ → List ℕ → SelAnswer → Type 0
-Asked letter kind s out left r = (kind_of letter ≡ Kind.Answer kind) × Gives (flat_of letter s) out r left
+Asked letter kind s out left r = (kind_of letter ≡ Some (Kind.Answer kind)) × Gives (flat_of letter s) out r left
 
 pub record FlatRows (letter : ℕ) (kind : AnswerKind) (s out left : List ℕ) (r : SelAnswer) : Type 0 where
   -- whichever row refuses it, its number is given, with what the row has it carry

@@ -5,7 +5,8 @@ ghost use Rattle.flat_form.specs.Form.{decided, flat_answer};
 ghost use Rattle.flat.specs.Lengths.{length_flat, length_said};
 
 use crate::{Kind, kind_of};
-use answers::{AnswerKind, LengthAnswer};
+use answers::AnswerKind;
+use field::lengths::LengthError;
 use field::{byte_at, le32_at};
 use flat_form::{SelAnswer, no_question, too_long, too_short, written};
 
@@ -24,9 +25,9 @@ pub fn length_of(letter: u8, len: usize) -> SelAnswer
     ensures { result ≡ length_said letter len }
 {
     match kind_of(letter) {
-        Kind::Answer(kind) => length_of_kind(kind, len),
-        Kind::Other(_) => no_question(),
-        Kind::NoKind => no_question(),
+        Some(Kind::Answer(kind)) => length_of_kind(kind, len),
+        Some(Kind::Other(_)) => no_question(),
+        None => no_question(),
     }
 }
 
@@ -34,8 +35,8 @@ fn length_of_kind(kind: AnswerKind, len: usize) -> SelAnswer
     ensures { result ≡ flat_answer (decided (length_hands kind len) []) [] }
 {
     match answers::length_answer(kind, len) {
-        LengthAnswer::MayBeRead => written(0),
-        LengthAnswer::NotEnoughData(needed) => too_short(needed as usize),
-        LengthAnswer::TooLong => too_long(),
+        Ok(()) => written(0),
+        Err(LengthError::NotEnoughData(needed)) => too_short(needed as usize),
+        Err(LengthError::TooLong) => too_long(),
     }
 }

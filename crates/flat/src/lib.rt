@@ -17,16 +17,15 @@ pub use lengths::length_of;
 pub use requests::requested;
 
 // What the bytes of a question are read as.
-#[derive(Clone, Copy)]
+#[derive(Clone, Copy, Debug, PartialEq, Eq)]
 pub enum Kind {
     // An answer to a command, or a record.
     Answer(AnswerKind),
     Other(Question),
-    NoKind,
 }
 
 // What is no answer by itself.
-#[derive(Clone, Copy)]
+#[derive(Clone, Copy, Debug, PartialEq, Eq)]
 pub enum Question {
     // A record, for its event's text.
     EntryText,
@@ -55,53 +54,52 @@ pub enum Question {
 }
 
 // The kind that a letter names. Letters in upper case are told apart first: one table of both would be too wide for a jump.
-pub fn kind_of(letter: u8) -> Kind
+pub fn kind_of(letter: u8) -> Option<Kind>
     ensures { result ≡ kind_of letter }
 {
     if letter < b'a' {
         return upper_kind_of(letter);
     }
     match letter {
-        b'e' => Kind::Answer(AnswerKind::Entry),
-        b'g' => Kind::Answer(AnswerKind::GetEntry),
-        b'i' => Kind::Answer(AnswerKind::Info),
-        b'a' => Kind::Answer(AnswerKind::Allocation),
-        b'r' => Kind::Answer(AnswerKind::Reserve),
-        b'c' => Kind::Answer(AnswerKind::Clear),
-        b'y' => Kind::Other(Question::EntryText),
-        b'p' => Kind::Other(Question::RecordPart),
-        b'd' => Kind::Other(Question::EventData),
-        b'v' => Kind::Other(Question::EventDataText),
-        b'x' => Kind::Other(Question::EventText),
-        b't' => Kind::Other(Question::TimeText),
-        b's' => Kind::Other(Question::LogTimeText),
-        b'n' => Kind::Other(Question::RecordId),
-        b'q' => Kind::Other(Question::Request),
-        _ => Kind::NoKind,
+        b'e' => Some(Kind::Answer(AnswerKind::Entry)),
+        b'g' => Some(Kind::Answer(AnswerKind::GetEntry)),
+        b'i' => Some(Kind::Answer(AnswerKind::Info)),
+        b'a' => Some(Kind::Answer(AnswerKind::Allocation)),
+        b'r' => Some(Kind::Answer(AnswerKind::Reserve)),
+        b'c' => Some(Kind::Answer(AnswerKind::Clear)),
+        b'y' => Some(Kind::Other(Question::EntryText)),
+        b'p' => Some(Kind::Other(Question::RecordPart)),
+        b'd' => Some(Kind::Other(Question::EventData)),
+        b'v' => Some(Kind::Other(Question::EventDataText)),
+        b'x' => Some(Kind::Other(Question::EventText)),
+        b't' => Some(Kind::Other(Question::TimeText)),
+        b's' => Some(Kind::Other(Question::LogTimeText)),
+        b'n' => Some(Kind::Other(Question::RecordId)),
+        b'q' => Some(Kind::Other(Question::Request)),
+        _ => None,
     }
 }
 
-fn upper_kind_of(letter: u8) -> Kind
+fn upper_kind_of(letter: u8) -> Option<Kind>
     ensures { result ≡ upper_kind_of letter }
 {
     match letter {
-        b'D' => Kind::Other(Question::TypedData),
-        b'E' => Kind::Other(Question::EntryOf),
-        b'G' => Kind::Other(Question::GetEntryOf),
-        b'L' => Kind::Other(Question::Length),
-        b'V' => Kind::Other(Question::TypedDataText),
-        _ => Kind::NoKind,
+        b'D' => Some(Kind::Other(Question::TypedData)),
+        b'E' => Some(Kind::Other(Question::EntryOf)),
+        b'G' => Some(Kind::Other(Question::GetEntryOf)),
+        b'L' => Some(Kind::Other(Question::Length)),
+        b'V' => Some(Kind::Other(Question::TypedDataText)),
+        _ => None,
     }
 }
 
 // Whether the flat bytes of that kind are a text.
-pub fn is_text(kind: Kind) -> bool
+pub fn is_text(kind: Option<Kind>) -> bool
     ensures { result ≡ is_text kind }
 {
     match kind {
-        Kind::Answer(_) => false,
-        Kind::Other(question) => text_question(question),
-        Kind::NoKind => false,
+        Some(Kind::Answer(_)) | None => false,
+        Some(Kind::Other(question)) => text_question(question),
     }
 }
 
@@ -131,9 +129,9 @@ pub fn flat(letter: u8, data: &[u8], out: &mut [u8]) -> SelAnswer
     ensures { Gives (flat_of letter «data».now) out.old result out.new }
 {
     match kind_of(letter) {
-        Kind::Answer(kind) => answer(kind, data, out),
-        Kind::Other(question) => other(question, data, out),
-        Kind::NoKind => no_question(),
+        Some(Kind::Answer(kind)) => answer(kind, data, out),
+        Some(Kind::Other(question)) => other(question, data, out),
+        None => no_question(),
     }
 }
 

@@ -38,25 +38,15 @@ pub fn requested(command: u8, reservation: u16, argument: u16, out: &mut [u8]) -
     ensures { Gives (request_of command reservation argument) out.old result out.new }
 {
     match command {
-        0x40 => {
-            let w = GetInfo::write_request(out);
-            of_written(w)
-        }
-        0x41 => {
-            let w = GetAllocInfo::write_request(out);
-            of_written(w)
-        }
-        0x42 => {
-            let w = ReserveSel::write_request(out);
-            of_written(w)
-        }
+        0x40 => of_written(GetInfo::write_request(out)),
+        0x41 => of_written(GetAllocInfo::write_request(out)),
+        0x42 => of_written(ReserveSel::write_request(out)),
         0x43 => {
             let request = GetEntry::new(
                 ReservationId::new(reservation),
                 RecordId::new_raw(argument),
             );
-            let w = request.write_request(out);
-            of_written(w)
+            of_written(request.write_request(out))
         }
         0x47 => cleared(reservation, argument, out),
         _ => no_question(),
@@ -68,16 +58,8 @@ fn cleared(reservation: u16, argument: u16, out: &mut [u8]) -> SelAnswer
 {
     let reservation_id = ReservationId::new(reservation);
     match argument {
-        0x00AA => {
-            let request = ClearSel::initiate(reservation_id);
-            let w = request.write_request(out);
-            of_written(w)
-        }
-        0x0000 => {
-            let request = ClearSel::get_status(reservation_id);
-            let w = request.write_request(out);
-            of_written(w)
-        }
+        0x00AA => of_written(ClearSel::initiate(reservation_id).write_request(out)),
+        0x0000 => of_written(ClearSel::get_status(reservation_id).write_request(out)),
         _ => no_question(),
     }
 }

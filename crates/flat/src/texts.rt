@@ -5,7 +5,7 @@ ghost use Rattle.flat.specs.Texts.{entry_text_flat, event_data_text_flat, event_
 use event_data::EventData;
 use field::le32_at;
 use flat_form::{SelAnswer, no_question, of_written, refused};
-use sel::{Entry, EntryAnswer};
+use sel::Entry;
 use storage::Timestamp;
 use typed_data::TypedData;
 
@@ -13,14 +13,9 @@ use typed_data::TypedData;
 pub(crate) fn entry_text(data: &[u8], out: &mut [u8]) -> SelAnswer
     ensures { Gives (entry_text_flat «data».now) out.old result out.new }
 {
-    let parsed = Entry::parse(data);
-    let answer = parsed.answer;
-    match answer {
-        EntryAnswer::Accepted(entry) => {
-            let w = entry.event_description(out);
-            of_written(w)
-        }
-        EntryAnswer::Refused(why) => refused(why.number() as u32, why.value() as usize),
+    match Entry::parse(data) {
+        Ok(parsed) => of_written(parsed.entry.event_description(out)),
+        Err(why) => refused(why.number() as u32, why.value() as usize),
     }
 }
 
@@ -32,8 +27,7 @@ pub(crate) fn event_data_text(data: &[u8], out: &mut [u8]) -> SelAnswer
         return no_question();
     }
     let d = EventData::parse(&[data[0], data[1], data[2]]);
-    let w = d.write_text(out);
-    of_written(w)
+    of_written(d.write_text(out))
 }
 
 // The text of event data by event type: byte 12 of a record, and then bytes 13 to 15.
@@ -44,8 +38,7 @@ pub(crate) fn typed_data_text(data: &[u8], out: &mut [u8]) -> SelAnswer
         return no_question();
     }
     let d = TypedData::parse(data[0], &[data[1], data[2], data[3]]);
-    let w = d.write_text(out);
-    of_written(w)
+    of_written(d.write_text(out))
 }
 
 // The text of an event: event type, sensor type, offset.
@@ -55,8 +48,7 @@ pub(crate) fn event_text(data: &[u8], out: &mut [u8]) -> SelAnswer
     if data.len() != 3 {
         return no_question();
     }
-    let w = event_offset::decode_event(data[0], data[1], data[2], out);
-    of_written(w)
+    of_written(event_offset::decode_event(data[0], data[1], data[2], out))
 }
 
 // The text of a time of four bytes.
@@ -66,9 +58,8 @@ pub(crate) fn time_text(data: &[u8], out: &mut [u8]) -> SelAnswer
     if data.len() != 4 {
         return no_question();
     }
-    let time = Timestamp::from_u32(le32_at(data, 0));
-    let w = time.write_text(out);
-    of_written(w)
+    let time = Timestamp::from(le32_at(data, 0));
+    of_written(time.write_text(out))
 }
 
 // The log's text of a time of four bytes.
@@ -78,7 +69,6 @@ pub(crate) fn log_time_text(data: &[u8], out: &mut [u8]) -> SelAnswer
     if data.len() != 4 {
         return no_question();
     }
-    let time = Timestamp::from_u32(le32_at(data, 0));
-    let w = time.write_log_text(out);
-    of_written(w)
+    let time = Timestamp::from(le32_at(data, 0));
+    of_written(time.write_log_text(out))
 }

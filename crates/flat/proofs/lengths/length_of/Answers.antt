@@ -1,12 +1,11 @@
 -- `length_of` meets its contract, by the kind that the letter names. Assumes nothing.
-use mathlib.Core.Path.{sym, ◌∙◌}
 use Rattle.flat.proofs.lengths.length_of.Goals as goal
 
-pub returns-in-Answer : goal.returns-in-Answer
-returns-in-Answer c = rw (sym c.kind_of.ensures ∙ c.in-Answer.is) c.length_of_kind.ensures
+pub returns-in-Some-Answer : goal.returns-in-Some-Answer
+returns-in-Some-Answer c = rw (← c.kind_of.ensures, c.in-Some-Answer.is, c.in-Some-Answer.field-0-is) c.length_of_kind.ensures
 
-pub returns-in-Other : goal.returns-in-Other
-returns-in-Other c = rw (sym c.kind_of.ensures ∙ c.in-Other.is) c.no_question.ensures
+pub returns-in-Some-Other : goal.returns-in-Some-Other
+returns-in-Some-Other c = rw (← c.kind_of.ensures, c.in-Some-Other.is, c.in-Some-Other.field-0-is) c.no_question.ensures
 
-pub returns-in-NoKind : goal.returns-in-NoKind
-returns-in-NoKind c = rw (sym c.kind_of.ensures ∙ c.in-NoKind.is) c.no_question-in-NoKind.ensures
+pub returns-in-None : goal.returns-in-None
+returns-in-None c = rw (← c.kind_of.ensures, c.in-None.is) c.no_question-in-None.ensures

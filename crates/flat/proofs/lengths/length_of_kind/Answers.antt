@@ -4,14 +4,18 @@ use Rattle.flat_form.specs.Form.{decided}
 use Rattle.flat.proofs.LengthSaid.{length_told}
 use Rattle.flat.proofs.lengths.length_of_kind.Goals as goal
 
-pub returns-in-MayBeRead : goal.returns-in-MayBeRead
+pub returns-in-Ok : goal.returns-in-Ok
 unfolding decided
-returns-in-MayBeRead c = c.written.ensures ∙ length_told _ _ c.length_answer.ensures.decoded c.in-MayBeRead.is
+returns-in-Ok c = c.written.ensures ∙ length_told _ _ c.length_answer.ensures.decoded c.in-Ok.is
 
-pub returns-in-NotEnoughData : goal.returns-in-NotEnoughData
+pub returns-in-Err-NotEnoughData : goal.returns-in-Err-NotEnoughData
 unfolding decided
-returns-in-NotEnoughData c = c.too_short.ensures ∙ length_told _ _ c.length_answer.ensures.decoded c.in-NotEnoughData.is
+returns-in-Err-NotEnoughData c =
+    let a = c.in-Err-NotEnoughData in
+    c.too_short.ensures ∙ length_told _ _ c.length_answer.ensures.decoded (rw a.field-0-is at a.is)
 
-pub returns-in-TooLong : goal.returns-in-TooLong
+pub returns-in-Err-TooLong : goal.returns-in-Err-TooLong
 unfolding decided
-returns-in-TooLong c = c.too_long.ensures ∙ length_told _ _ c.length_answer.ensures.decoded c.in-TooLong.is
+returns-in-Err-TooLong c =
+    let a = c.in-Err-TooLong in
+    c.too_long.ensures ∙ length_told _ _ c.length_answer.ensures.decoded (rw a.field-0-is at a.is)

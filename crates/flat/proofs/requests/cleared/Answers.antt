@@ -7,12 +7,12 @@ use Rattle.flat.proofs.requests.cleared.Goals as goal
 pub returns-in-170 : goal.returns-in-170
 unfolding clear_of
 returns-in-170 c =
-    gives_is (rw (c.in-170.is, c.initiate-request.ensures, c.new-reservation_id.ensures)) (gives_written c.of_written.ensures c.write_request-w.ensures)
+    gives_is (rw (c.in-170.is, c.initiate.ensures, c.new-reservation_id.ensures)) (gives_written c.of_written.ensures c.write_request.ensures)
 
 pub returns-in-0 : goal.returns-in-0
 unfolding clear_of
 returns-in-0 c =
-    gives_is (rw (c.in-0.is, c.get_status-request.ensures, c.new-reservation_id.ensures)) (gives_written c.of_written-in-0.ensures c.write_request-w-in-0.ensures)
+    gives_is (rw (c.in-0.is, c.get_status.ensures, c.new-reservation_id.ensures)) (gives_written c.of_written-in-0.ensures c.write_request-in-0.ensures)
 
 pub returns-in_default : goal.returns-in_default
 unfolding clear_of

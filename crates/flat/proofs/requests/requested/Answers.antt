@@ -8,7 +8,7 @@ pub returns-in-67 : goal.returns-in-67
 unfolding request_of
 returns-in-67 c =
     gives_is (rw (c.in-67.is, c.new-request.ensures, c.new.ensures, c.new_raw.ensures))
-    (gives_written c.of_written-in-67.ensures c.write_request-w-in-67.ensures)
+    (gives_written c.of_written-in-67.ensures c.write_request-in-67.ensures)
 
 pub returns-in_default : goal.returns-in_default
 returns-in_default c =
@@ -17,15 +17,15 @@ returns-in_default c =
 
 pub returns-in-64 : goal.returns-in-64
 unfolding request_of
-returns-in-64 c = rw c.in-64.is (gives_written c.of_written.ensures c.write_request-w.ensures)
+returns-in-64 c = rw c.in-64.is (gives_written c.of_written.ensures c.write_request.ensures)
 
 pub returns-in-65 : goal.returns-in-65
 unfolding request_of
-returns-in-65 c = rw c.in-65.is (gives_written c.of_written-in-65.ensures c.write_request-w-in-65.ensures)
+returns-in-65 c = rw c.in-65.is (gives_written c.of_written-in-65.ensures c.write_request-in-65.ensures)
 
 pub returns-in-66 : goal.returns-in-66
 unfolding request_of
-returns-in-66 c = rw c.in-66.is (gives_written c.of_written-in-66.ensures c.write_request-w-in-66.ensures)
+returns-in-66 c = rw c.in-66.is (gives_written c.of_written-in-66.ensures c.write_request-in-66.ensures)
 
 pub returns-in-71 : goal.returns-in-71
 unfolding request_of

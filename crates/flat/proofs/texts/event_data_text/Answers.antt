@@ -12,4 +12,4 @@ returns-then-data-ne3 c = rw (ne_eqb _ 3 c.if-data-ne3.true) (gives_refusal c.no
 pub returns : goal.returns
 unfolding event_data_text_flat event_data_of
 returns c =
-    rw (eq-eqb _ 3 c.if-data-ne3.false, ← c.parse-d.ensures) (gives_written c.of_written.ensures c.write_text-w.ensures)
+    rw (eq-eqb _ 3 c.if-data-ne3.false, ← c.parse-d.ensures) (gives_written c.of_written.ensures c.write_text.ensures)

@@ -11,4 +11,4 @@ returns-then-data-ne3 c = rw (ne_eqb _ 3 c.if-data-ne3.true) (gives_refusal c.no
 pub returns : goal.returns
 unfolding event_text_flat
 returns c =
-    rw (eq-eqb _ 3 c.if-data-ne3.false) (gives_written c.of_written.ensures c.decode_event-w.ensures)
+    rw (eq-eqb _ 3 c.if-data-ne3.false) (gives_written c.of_written.ensures c.decode_event.ensures)

@@ -13,4 +13,4 @@ returns-then-data-ne4 c = rw (ne_eqb _ 4 c.if-data-ne4.true) (gives_refusal c.no
 pub returns : goal.returns
 unfolding log_time_text_flat
 returns c =
-    rw (eq-eqb _ 4 c.if-data-ne4.false, ← c.le32_at.ensures, ← ap (λ (t : Timestamp). t.0) c.from_u32-time.ensures) (gives_written c.of_written.ensures c.write_log_text-w.ensures)
+    rw (eq-eqb _ 4 c.if-data-ne4.false, ← c.le32_at.ensures, ← ap (λ (t : Timestamp). t.0) c.from-time.ensures) (gives_written c.of_written.ensures c.write_log_text.ensures)

@@ -12,4 +12,4 @@ pub returns : goal.returns
 unfolding typed_data_text_flat
 returns c =
     rw (eq-eqb _ 4 c.if-data-ne4.false, ← c.parse-d.ensures)
-    (gives_written c.of_written.ensures c.write_text-w.ensures)
+    (gives_written c.of_written.ensures c.write_text.ensures)

@@ -5,14 +5,11 @@ use mathlib.Core.List.{List}
 use Rattle.field.specs.Handed.{invalid_channel, short, too_long, unknown_type}
 use Rattle.field.specs.Lengths.{entry_bytes}
 use Rattle.field.proofs.Choices.{float}
-use Rattle.text.specs.Written.{room_for}
-use Rattle.text.specs.declared.Written.{Written}
+use Rattle.text.specs.Written.{Written, room_for}
 use Rattle.sel.specs.Entry.{type_at}
 use Rattle.platform_event.specs.Message.{channel_beside, message_bytes, message_in, record_of}
-use Rattle.platform_event.specs.Ways.{message_answer, message_number, record_answer, record_number, way_in, way_out}
+use Rattle.platform_event.specs.Ways.{MessageAnswer, RecordAnswer, message_answer, message_number, message_wrote, record_answer, record_number, record_wrote, way_in, way_out}
 use Rattle.platform_event.specs.declared.Beside.{Beside}
-use Rattle.platform_event.specs.declared.MessageAnswer.{MessageAnswer}
-use Rattle.platform_event.specs.declared.RecordAnswer.{RecordAnswer}
 use Rattle.flat_form.specs.Form.{Flat, Gives, flat_answer, flat_leaves, from_written, refusal}
 use Rattle.flat_form.specs.declared.SelAnswer.{SelAnswer}
 use Rattle.flat_events.specs.Events.{message_flat, record_flat}
@@ -30,7 +27,7 @@ to_record_lem b m out left r g =
           ∙ ap
           (λ (x : SelAnswer). way_in b m (refusal (short message_bytes)) (refusal too_long) (refusal (invalid_channel (channel_beside b))) x)
           (float from_written (room_for (record_of b m) out) _ _
-          ∙ sym (float (λ (w : Written). refusal (record_number (RecordAnswer.Wrote w))) (room_for (record_of b m) out) _ _))
+          ∙ sym (float (λ (w : Written). refusal (record_number (record_wrote w))) (room_for (record_of b m) out) _ _))
           ∙ sym (in_float (λ (a : RecordAnswer). refusal (record_number a)) b m _ _ _ _);
     }
 
@@ -45,7 +42,7 @@ to_event_lem s out left r g =
           ∙ ap
           (λ (x : SelAnswer). way_out s (refusal (short entry_bytes)) (refusal (unknown_type (type_at s))) x)
           (float from_written (room_for (message_in s) out) _ _
-          ∙ sym (float (λ (w : Written). refusal (message_number (MessageAnswer.Wrote w))) (room_for (message_in s) out) _ _))
+          ∙ sym (float (λ (w : Written). refusal (message_number (message_wrote w))) (room_for (message_in s) out) _ _))
           ∙ sym (out_float (λ (a : MessageAnswer). refusal (message_number a)) s _ _ _);
     }
 

@@ -1,10 +1,10 @@
 -- The theorem of specs/FromStore.antt. Assumes nothing.
+use Rattle.std.specs.Prelude.{Ok, Err}
 use Prim.Native.Nat.{ℕ}
 use mathlib.Core.Path.{◌≡◌, refl, sym, ap, ◌∙◌}
 use mathlib.Core.List.{List}
 use lib.ListN.{length}
-use Rattle.text.specs.Written.{number_of}
-use Rattle.text.specs.declared.Written.{Written}
+use Rattle.text.specs.Written.{Written, number_of}
 use Rattle.event_offset.specs.Fills.{fill_answer}
 use Rattle.event_offset.proofs.FilledGives.{filled_gives}
 use Rattle.flat_form.specs.Form.{from_written, taken}
@@ -15,8 +15,8 @@ use Rattle.abi.specs.FromStore.{FromStore}
 
 -- the number of what is filled, in both forms of the answer
 pub number_is : (w : Written) → (from_written w).number ≡ (number_of w).number
-number_is (Written.Length n) = refl
-number_is (Written.NoRoom n) = refl
+number_is (Ok n) = refl
+number_is (Err e) = refl
 
 module _ (a b c : List ℕ) (f : SelAnswer) (store starts lengths : List ℕ) where
   accepted : Filled a b c f store starts lengths → f.number ≡ 0 → (number_of (fill_answer (length a) (length b) (length c))).number ≡ 0

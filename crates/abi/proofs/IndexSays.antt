@@ -1,4 +1,5 @@
 -- What the functions for an index say of each other. Assumes nothing.
+use Rattle.std.specs.Prelude.{Result, Ok, Err}
 use Prim.Native.Nat.{ℕ}
 use mathlib.Core.Path.{◌≡◌, refl, sym, ap, ◌∙◌}
 use mathlib.Core.Bool.{Bool, true, false}
@@ -10,12 +11,13 @@ use Rattle.field.proofs.Choices.{clash}
 use Rattle.capture.specs.Length.{slots_answer}
 use Rattle.capture.specs.Refusals.{Bad}
 use Rattle.capture.specs.Slots.{count}
-use Rattle.capture.specs.declared.SlotsAnswer.{SlotsAnswer}
+use Rattle.capture.specs.declared.CaptureError.{CaptureError}
+use Rattle.capture.specs.declared.Verdict.{Verdict}
 use Rattle.capture.proofs.Length.{Tells, tells}
 use Rattle.index.specs.Check.{right_index}
 use Rattle.index.specs.Index.{RightIndex}
 use Rattle.index.specs.Walk.{indexed_number_of, walk_indexed}
-use Rattle.index.specs.declared.IndexedVerdict.{IndexedVerdict}
+use Rattle.index.specs.declared.IndexError.{IndexError}
 use Rattle.index.proofs.Checked.{checked}
 use Rattle.index.proofs.Indexed.{indexed_walk}
 use Rattle.index.proofs.Lookup.{finds}
@@ -26,10 +28,17 @@ use Rattle.index_make.proofs.Made.{makes_index, number_is}
 use Rattle.flat_form.specs.declared.SelAnswer.{SelAnswer}
 use Rattle.abi.specs.IndexSays.{IndexSays}
 use Rattle.abi.specs.Indexes.{WalksIndexed, check_hands, indexed_answer}
-use Rattle.abi.specs.Walks.{found_answer}
+use Rattle.capture.specs.Walk.{walk_of}
+use Rattle.index.specs.Refusals.{wrapped}
+use Rattle.abi.specs.Walks.{found_answer, walk_answer}
 use Rattle.abi.specs.declared.walk.SelWalk.{SelWalk}
 use Rattle.abi.proofs.Indexing.{is_bad, is_right, is_wrong}
 use Rattle.abi.proofs.LengthSays.{walk_number}
+
+-- what the walk answers is told alike with an index
+as_walked : (r : Result Verdict CaptureError) → indexed_answer (wrapped r) ≡ walk_answer r
+as_walked (Ok v) = refl
+as_walked (Err e) = refl
 
 module _ (s : List ℕ) where
   module _ (x : List ℕ) where
@@ -41,11 +50,11 @@ module _ (s : List ℕ) where
     says : Says
     says = go (slots_answer (length s)) (tells (length s)) (right_index s x) refl
       where
-        go : (a : SlotsAnswer) → Tells (length s) a → (b : Bool) → right_index s x ≡ b → Says
-        go SlotsAnswer.BadCapture (t, why) b e = bad why (sym (is_bad s x t))
-        go SlotsAnswer.MayBeWalked (f, h, l) true e =
+        go : (a : Result Unit CaptureError) → Tells (length s) a → (b : Bool) → right_index s x ≡ b → Says
+        go (Err a) (t, why, is) b e = bad why (sym (is_bad s x t))
+        go (Ok u) (f, h, l) true e =
             right (⊎_elim (λ p. p h) (λ p. omega arith)) ((checked s x).exactly.0 e) (sym (is_right s x f e))
-        go SlotsAnswer.MayBeWalked (f, h, l) false e =
+        go (Ok u) (f, h, l) false e =
             wrong (⊎_elim (λ p. p h) (λ p. omega arith)) (λ r. clash ((checked s x).exactly.1 r) e) (sym (is_wrong s x f e))
 
     five : (((check_hands s x).number ≡ 5) → Bad s) × (Bad s → (check_hands s x).number ≡ 5)
@@ -73,9 +82,10 @@ module _ (s : List ℕ) where
         go (right sound r e) = (λ p. (sound, r), λ p. e)
 
     -- the number of what the walk with it answers
-    indexed_number : (v : IndexedVerdict) → (indexed_answer v).number ≡ (indexed_number_of v).number
-    indexed_number (IndexedVerdict.Walked v) = walk_number v
-    indexed_number IndexedVerdict.WrongIndex = refl
+    indexed_number : (v : Result Verdict IndexError) → (indexed_answer v).number ≡ (indexed_number_of v).number
+    indexed_number (Ok v) = walk_number (Ok v)
+    indexed_number (Err (IndexError.Capture e)) = walk_number (Err e)
+    indexed_number (Err IndexError.WrongIndex) = refl
 
     module _ (b : ℕ) (old : List ℕ) {left : List ℕ} {r : SelWalk} (w : WalksIndexed s x b old r left) where
       number : r.number ≡ (indexed_number_of (walk_indexed s x b (length old))).number
@@ -105,7 +115,7 @@ module _ (s : List ℕ) where
     walks = λ x z b old left r w.
         let i = indexed_walk s x b old in
         let q = ((zero x).0 z).1 in
-        record { answered = w.answered ∙ ap indexed_answer (i.same q); leaves = w.leaves ∙ i.leaves q };
+        record { answered = w.answered ∙ ap indexed_answer (i.same q) ∙ as_walked (walk_of s b (length old)); leaves = w.leaves ∙ i.leaves q };
     refused = λ x n b old left r w. refused x b old w n;
     made = λ old was left scratch r m z.
         let t = makes_index s old was in

@@ -1,4 +1,5 @@
 -- The index of a capture's slots, in numbers. Assumes nothing.
+use Rattle.std.specs.Prelude.{Result}
 use Prim.Native.Nat.{ℕ, ◌≤◌}
 use mathlib.Core.Path.{◌≡◌, sym, ap, subst, ◌∙◌}
 use mathlib.Core.Bool.{true, false}
@@ -8,12 +9,12 @@ use Rattle.capture.specs.Length.{bad_length}
 use Rattle.capture.specs.declared.Verdict.{Verdict}
 use Rattle.index.specs.Check.{right_index}
 use Rattle.index.specs.Walk.{WalkedIndexed}
-use Rattle.index.specs.declared.IndexedVerdict.{IndexedVerdict}
+use Rattle.index.specs.Refusals.{wrapped}
+use Rattle.index.specs.declared.IndexError.{IndexError}
+use Rattle.capture.specs.declared.CaptureError.{CaptureError}
 use Rattle.index.proofs.Indexed.{indexed_walk}
 use Rattle.index_make.specs.Add.{IndexAdded, added_number_of}
 use Rattle.index_make.specs.Make.{IndexMade, made_number_of}
-use Rattle.index_make.specs.declared.AddedIndex.{AddedIndex}
-use Rattle.index_make.specs.declared.MadeIndex.{MadeIndex}
 use Rattle.flat_form.specs.Form.{refusal}
 use Rattle.flat_form.specs.declared.SelAnswer.{SelAnswer}
 use Rattle.abi.specs.Indexes.{AddsIndex, MakesIndex, WalksIndexed, check_hands, indexed_answer}
@@ -22,13 +23,13 @@ use Rattle.abi.specs.declared.walk.SelWalk.{SelWalk}
 use Rattle.abi.proofs.Walking.{count_few}
 
 -- the answer of making, and of adding, by what was told apart
-pub makes : {s old was : List ℕ} {m w : MadeIndex} {left scratch : List ℕ} → IndexMade s old was m left scratch → m ≡ w
+pub makes : {s old was : List ℕ} {m w : Result ℕ CaptureError} {left scratch : List ℕ} → IndexMade s old was m left scratch → m ≡ w
     → {r : SelAnswer} → r ≡ refusal (made_number_of w) → MakesIndex s old was r left scratch
-makes p e q = record { answered = q ∙ ap (λ (x : MadeIndex). refusal (made_number_of x)) (sym e) ∙ ap refusal p.numbered; leaves = p.leaves; scratched = p.scratched }
+makes p e q = record { answered = q ∙ ap (λ (x : Result ℕ CaptureError). refusal (made_number_of x)) (sym e) ∙ ap refusal p.numbered; leaves = p.leaves; scratched = p.scratched }
 
-pub adds : {s old : List ℕ} {m w : AddedIndex} {left : List ℕ} → IndexAdded s old m left → m ≡ w
+pub adds : {s old : List ℕ} {m w : Result ℕ IndexError} {left : List ℕ} → IndexAdded s old m left → m ≡ w
     → {r : SelAnswer} → r ≡ refusal (added_number_of w) → AddsIndex s old r left
-adds p e q = record { answered = q ∙ ap (λ (x : AddedIndex). refusal (added_number_of x)) (sym e) ∙ ap refusal p.numbered; leaves = p.leaves }
+adds p e q = record { answered = q ∙ ap (λ (x : Result ℕ IndexError). refusal (added_number_of x)) (sym e) ∙ ap refusal p.numbered; leaves = p.leaves }
 
 -- the two tests
 module _ (s x : List ℕ) where
@@ -46,9 +47,9 @@ module _ (s x : List ℕ) where
     is_wrong e = rw (f, e)
 
 -- a verdict with an index is the walk's, and what it counts is few
-module _ (s x : List ℕ) (b : ℕ) (old : List ℕ) {v : IndexedVerdict} {left : List ℕ} (p : WalkedIndexed s x b old v left) where
-  pub counted_few : {w : Verdict} → v ≡ IndexedVerdict.Walked w → count_of w ≤ 3000
-  counted_few {w} e = subst (λ (y : Verdict). count_of y ≤ 3000) (sym ((indexed_walk s x b old).verdicts w (sym p.answered ∙ e))) (count_few s b old)
+module _ (s x : List ℕ) (b : ℕ) (old : List ℕ) {v : Result Verdict IndexError} {left : List ℕ} (p : WalkedIndexed s x b old v left) where
+  pub counted_few : (w : Result Verdict CaptureError) → v ≡ wrapped w → count_of w ≤ 3000
+  counted_few w e = subst (λ (y : Result Verdict CaptureError). count_of y ≤ 3000) (sym ((indexed_walk s x b old).verdicts w (sym p.answered ∙ e))) (count_few s b old)
 
-  pub walks_indexed : {w : IndexedVerdict} → v ≡ w → {r : SelWalk} → r ≡ indexed_answer w → WalksIndexed s x b old r left
+  pub walks_indexed : {w : Result Verdict IndexError} → v ≡ w → {r : SelWalk} → r ≡ indexed_answer w → WalksIndexed s x b old r left
   walks_indexed e q = record { answered = q ∙ ap indexed_answer (sym e ∙ p.answered); leaves = p.leaves }

@@ -1,4 +1,5 @@
 -- From what the crates below promise to the numbers handed back. Assumes nothing.
+use Rattle.std.specs.Prelude.{Result, Ok, Err}
 use Prim.Native.Nat.{ℕ, ◌≤◌}
 use mathlib.Core.Path.{◌≡◌, sym, ap, subst, ◌∙◌}
 use mathlib.Core.List.{List}
@@ -6,14 +7,13 @@ use native.Mathlib.Decide.{dec_le}
 use native.Mathlib.Omega.{arith}
 use borrow.Author.Tests.{le-leb, lt-leb}
 use Rattle.field.specs.Handed.{Answers, Handed}
-use Rattle.text.specs.Written.{Wrote}
-use Rattle.text.specs.declared.Written.{Written}
+use Rattle.text.specs.Written.{Written, Wrote}
 use Rattle.connection.specs.Channel.{channel_hands, channel_number, channel_of, number_of as channel_number_of, valid_channel}
 use Rattle.connection.specs.Unit.{unit_named, unit_number}
 use Rattle.connection.specs.declared.Channel.{Channel}
 use Rattle.connection.specs.declared.LogicalUnit.{LogicalUnit}
-use Rattle.connection.specs.declared.NewChannel.{NewChannel}
-use Rattle.connection.specs.declared.NewUnit.{NewUnit}
+use Rattle.connection.specs.declared.InvalidChannel.{InvalidChannel}
+use Rattle.connection.specs.declared.InvalidUnit.{InvalidUnit}
 use Rattle.connection.proofs.Back.{unit_back}
 use Rattle.capture.proofs.Clash.{clash}
 use Rattle.event_offset.specs.Fills.{Fills}
@@ -41,15 +41,15 @@ fills {a} {b} {c} {store} {starts} {lengths} e p =
     }
 
 -- a channel is told by its number, and so is a number that is none
-module _ (n : ℕ) {a : NewChannel} (p : Answers a (channel_of valid_channel n) channel_number_of (channel_hands valid_channel n)) where
-  pub channel_is : {channel : Channel} {v : ℕ} → a ≡ NewChannel.Valid channel → v ≡ channel_number channel → said 0 v ≡ refusal (channel_hands valid_channel n)
+module _ (n : ℕ) {a : Result Channel InvalidChannel} (p : Answers a (channel_of valid_channel n) channel_number_of (channel_hands valid_channel n)) where
+  pub channel_is : {channel : Channel} {v : ℕ} → a ≡ Ok channel → v ≡ channel_number channel → said 0 v ≡ refusal (channel_hands valid_channel n)
   channel_is e i = rw i (ap refusal (ap channel_number_of (sym e) ∙ p.numbered))
 
-  pub no_channel : {k : ℕ} → a ≡ NewChannel.Invalid k → said 3 k ≡ refusal (channel_hands valid_channel n)
+  pub no_channel : {e : InvalidChannel} → a ≡ Err e → said 3 e.0 ≡ refusal (channel_hands valid_channel n)
   no_channel e = ap refusal (ap channel_number_of (sym e) ∙ p.numbered)
 
-module _ (n : ℕ) {a : NewUnit} (p : a ≡ unit_named n) where
-  pub unit_is : {unit : LogicalUnit} {v : ℕ} → a ≡ NewUnit.Valid unit → v ≡ unit_number unit → said 0 v ≡ refusal (unit_hands n)
+module _ (n : ℕ) {a : Result LogicalUnit InvalidUnit} (p : a ≡ unit_named n) where
+  pub unit_is : {unit : LogicalUnit} {v : ℕ} → a ≡ Ok unit → v ≡ unit_number unit → said 0 v ≡ refusal (unit_hands n)
   unfolding unit_hands
   unit_is {unit} {v} e i = by (dec_le n 3)
     where
@@ -57,7 +57,7 @@ module _ (n : ℕ) {a : NewUnit} (p : a ≡ unit_named n) where
       by (yes h) = rw (i, unit_back.back n unit (sym p ∙ e), le-leb n 3 h)
       by (no h) = clash (cc (unit_back.turned_away n (omega arith)))
 
-  pub no_unit_lem : a ≡ NewUnit.Invalid → said 255 0 ≡ refusal (unit_hands n)
+  pub no_unit_lem : {u : InvalidUnit} → a ≡ Err u → said 255 0 ≡ refusal (unit_hands n)
   unfolding unit_hands
   no_unit_lem e = by (dec_le n 3)
     where

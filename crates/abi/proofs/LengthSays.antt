@@ -1,4 +1,5 @@
 -- The theorems of specs/LengthSays.antt: what is said of a length is the answer of `length_answer`. Assumes nothing.
+use Rattle.std.specs.Prelude.{Option, Some, Result, Ok, Err}
 use Prim.Native.Nat.{ℕ, ◌≤◌, ◌<◌}
 use mathlib.Core.Path.{◌≡◌, refl, sym, ap, subst, ◌∙◌}
 use mathlib.Core.Bool.{Bool, true, false}
@@ -9,10 +10,9 @@ use lib.ListN.{length}
 use Rattle.field.specs.Bits.{Bytes}
 use Rattle.field.specs.Handed.{Handed, short, too_long}
 use Rattle.connection.specs.Channel.{valid_channel}
-use Rattle.answers.specs.Length.{bytes_that_count, length_answer, length_hands, no_longer, number_of}
+use Rattle.answers.specs.Length.{LengthAnswer, bytes_that_count, length_answer, length_hands, no_longer, number_of}
 use Rattle.answers.specs.Rows.{hands_of}
 use Rattle.answers.specs.declared.AnswerKind.{AnswerKind}
-use Rattle.answers.specs.declared.LengthAnswer.{LengthAnswer}
 use Rattle.answers.proofs.BytesThatCount.{bytes_that_count_lem, enough}
 use Rattle.answers.proofs.Length as Length
 use Rattle.answers.proofs.Length.{Told, told}
@@ -21,7 +21,7 @@ use Rattle.answers.proofs.Rows.{answer_rows}
 use Rattle.capture.specs.Length.{bad_length, slots_answer, slots_hands}
 use Rattle.capture.specs.Walk.{walk_of}
 use Rattle.capture.specs.Walked.{number_of as walked_number}
-use Rattle.capture.specs.declared.SlotsAnswer.{SlotsAnswer}
+use Rattle.capture.specs.declared.CaptureError.{CaptureError}
 use Rattle.capture.specs.declared.Verdict.{Verdict}
 use Rattle.capture.proofs.SlotsLength.{slots_length}
 use Rattle.flat_form.specs.Form.{Gives, decided, flat_answer, no_question, refusal, said, taken}
@@ -41,14 +41,14 @@ use Rattle.abi.specs.declared.walk.SelWalk.{SelWalk}
 data Spoken (kind : AnswerKind) (n : ℕ) : SelAnswer → Type 0 where
   one : n < bytes_that_count kind → ((s : List ℕ) → Bytes n s → hands_of valid_channel kind s ≡ short (bytes_that_count kind)) → Spoken kind n (said 1 (bytes_that_count kind))
   eight : kind ≡ AnswerKind.Info → bytes_that_count kind < n → ((s : List ℕ) → Bytes n s → hands_of valid_channel kind s ≡ too_long) → Spoken kind n (said 8 0)
-  zero : bytes_that_count kind ≤ n → (kind ≡ AnswerKind.Info → n ≡ bytes_that_count kind) → length_answer kind n ≡ LengthAnswer.MayBeRead → Spoken kind n (said 0 0)
+  zero : bytes_that_count kind ≤ n → (kind ≡ AnswerKind.Info → n ≡ bytes_that_count kind) → length_answer kind n ≡ Ok tt → Spoken kind n (said 0 0)
 
 differ : {a b : SelAnswer} → a ≡ b → (a.number ≡ b.number → ⊥) → ⊥
 differ e f = f (ap (λ (x : SelAnswer). x.number) e)
 
-module _ (letter : ℕ) (kind : AnswerKind) (n : ℕ) (names : kind_of letter ≡ Kind.Answer kind) where
+module _ (letter : ℕ) (kind : AnswerKind) (n : ℕ) (names : kind_of letter ≡ Some (Kind.Answer kind)) where
   said_is : length_said letter n ≡ flat_answer (decided (length_hands kind n) []) []
-  said_is = ap (λ (k : Kind). flat_answer (of_answer (λ x. decided (length_hands x n) []) no_question k) []) names
+  said_is = ap (λ (k : Option Kind). flat_answer (of_answer (λ x. decided (length_hands x n) []) no_question k) []) names
 
   bytes_are : letter_bytes letter ≡ bytes_that_count kind
   bytes_are = ap (of_answer bytes_that_count 0) names
@@ -77,7 +77,7 @@ module _ (letter : ℕ) (kind : AnswerKind) (n : ℕ) (names : kind_of letter �
   -- of what is said, case by case
   by_case : (P : SelAnswer → Type 0) → (n < bytes_that_count kind → ((s : List ℕ) → Bytes n s → hands_of valid_channel kind s ≡ short (bytes_that_count kind)) → P (said 1 (bytes_that_count kind)))
       → (kind ≡ AnswerKind.Info → bytes_that_count kind < n → ((s : List ℕ) → Bytes n s → hands_of valid_channel kind s ≡ too_long) → P (said 8 0))
-      → (bytes_that_count kind ≤ n → (kind ≡ AnswerKind.Info → n ≡ bytes_that_count kind) → length_answer kind n ≡ LengthAnswer.MayBeRead → P (said 0 0))
+      → (bytes_that_count kind ≤ n → (kind ≡ AnswerKind.Info → n ≡ bytes_that_count kind) → length_answer kind n ≡ Ok tt → P (said 0 0))
       → P (length_said letter n)
   by_case P p1 p8 p0 = subst P (sym spoken.1) (by spoken.0 spoken.2)
     where
@@ -117,30 +117,30 @@ length_says letter kind n = record {
   cut = λ names z s e. rw (bytes_are letter kind n names) ((flat_counts letter kind s).same names (rw e (read letter kind n names z).1));
 }
   where
-    read : (letter : ℕ) (kind : AnswerKind) (n : ℕ) → kind_of letter ≡ Kind.Answer kind → (length_said letter n).number ≡ 0
-        → (length_said letter n ≡ said 0 0) × (length_answer kind n ≡ LengthAnswer.MayBeRead)
+    read : (letter : ℕ) (kind : AnswerKind) (n : ℕ) → kind_of letter ≡ Some (Kind.Answer kind) → (length_said letter n).number ≡ 0
+        → (length_said letter n ≡ said 0 0) × (length_answer kind n ≡ Ok tt)
     read letter kind n names =
-        by_case letter kind n names (λ a. a.number ≡ 0 → (a ≡ said 0 0) × (length_answer kind n ≡ LengthAnswer.MayBeRead))
+        by_case letter kind n names (λ a. a.number ≡ 0 → (a ≡ said 0 0) × (length_answer kind n ≡ Ok tt))
         (λ h f z. absurd (omega (arith, z)))
         (λ i h f z. absurd (omega (arith, z)))
         (λ h x e z. (refl, e))
 
 -- the walk's number, in both forms of its answer
-pub walk_number : (v : Verdict) → (walk_answer v).number ≡ (walked_number v).number
-walk_number (Verdict.Ended read) = refl
-walk_number (Verdict.Missing ask read) = refl
-walk_number (Verdict.Spent ask read) = refl
-walk_number (Verdict.Circle read) = refl
-walk_number (Verdict.NoRoom n) = refl
-walk_number Verdict.BadCapture = refl
+pub walk_number : (v : Result Verdict CaptureError) → (walk_answer v).number ≡ (walked_number v).number
+walk_number (Ok (Verdict.Ended read)) = refl
+walk_number (Ok (Verdict.Missing ask read)) = refl
+walk_number (Ok (Verdict.Spent ask read)) = refl
+walk_number (Ok (Verdict.Circle read)) = refl
+walk_number (Err (CaptureError.NoRoom n)) = refl
+walk_number (Err CaptureError.BadCapture) = refl
 
 module _ (len : ℕ) where
-  slots_told : (b : Bool) → bad_length len ≡ b → (slots_hands len).number ≡ 5 → slots_answer len ≡ SlotsAnswer.BadCapture
+  slots_told : (b : Bool) → bad_length len ≡ b → (slots_hands len).number ≡ 5 → slots_answer len ≡ Err CaptureError.BadCapture
   unfolding slots_answer
   slots_told true e z = rw e
   slots_told false e z = absurd (omega (arith, rw e at z))
 
-  slots_else : (b : Bool) → bad_length len ≡ b → ((slots_hands len).number ≡ 5 → ⊥) → ((slots_hands len).number ≡ 0) × (slots_answer len ≡ SlotsAnswer.MayBeWalked)
+  slots_else : (b : Bool) → bad_length len ≡ b → ((slots_hands len).number ≡ 5 → ⊥) → ((slots_hands len).number ≡ 0) × (slots_answer len ≡ Ok tt)
   unfolding slots_answer
   slots_else true e z = absurd (z (rw e))
   slots_else false e z = (rw e, rw e)

@@ -1,4 +1,5 @@
 -- The walk and the search for a slot, in numbers: what they carry fits 32 bits. Assumes nothing.
+use Rattle.std.specs.Prelude.{Result, Ok}
 use Prim.Native.Nat.{ℕ, ◌≤◌}
 use mathlib.Core.Path.{◌≡◌, refl, sym, ap, ◌∙◌}
 use mathlib.Core.List.{List}
@@ -6,30 +7,24 @@ use mathlib.Core.Logic.{inr}
 use native.Mathlib.Decide.{dec_le}
 use native.Mathlib.Omega.{arith}
 use lib.ListN.{length}
-use Rattle.ids.specs.Ids.{record_id}
-use Rattle.ids.specs.declared.RecordId.{RecordId}
 use Rattle.capture.specs.Listing.{read_of}
 use Rattle.capture.specs.Refusals.{Bad}
 use Rattle.capture.specs.Slots.{count}
 use Rattle.capture.specs.Walk.{verdict, walk_of}
 use Rattle.capture.specs.Walked.{Walked}
-use Rattle.capture.specs.declared.Found.{Found}
+use Rattle.capture.specs.declared.CaptureError.{CaptureError}
 use Rattle.capture.specs.declared.Verdict.{Verdict}
 use Rattle.capture.proofs.Answer.{Answer, bad, short, goes, answer}
 use Rattle.capture.proofs.Listing.{few}
 use Rattle.capture.proofs.Ran.{counted}
 use Rattle.capture.proofs.Tested.{one_of_four}
-use Rattle.abi.specs.Walks.{Walks, count_of, found_answer, walk_answer}
+use Rattle.abi.specs.Walks.{Walks, count_of, walk_answer}
 use Rattle.abi.specs.declared.walk.SelWalk.{SelWalk}
-
--- what a search answers, of what it found
-pub found_is : (find : ℕ → Found) (id : ℕ) {x : RecordId} {f g : Found} → f ≡ find x.0 → x ≡ record_id id → f ≡ g → found_answer g ≡ found_answer (find id)
-found_is find id p i e = ap found_answer (sym e ∙ p ∙ ap (λ (x : RecordId). find x.0) i)
 
 module _ (s : List ℕ) (b : ℕ) (old : List ℕ) where
   -- a verdict counts what was read
-  counts : count_of (verdict s b) ≡ read_of (verdict s b)
-  counts = one_of_four (λ v. count_of v ≡ read_of v) (λ r. refl) (λ a r. refl) (λ a r. refl) (λ r. refl) s b
+  counts : count_of (Ok (verdict s b)) ≡ read_of (Ok (verdict s b))
+  counts = one_of_four (λ v. count_of (Ok v) ≡ read_of (Ok v)) (λ r. refl) (λ a r. refl) (λ a r. refl) (λ r. refl) s b
 
   slots_few : (Bad s → ⊥) → count s ≤ 3000
   slots_few fine = by (dec_le (length s) 60000)
@@ -48,10 +43,10 @@ module _ (s : List ℕ) (b : ℕ) (old : List ℕ) where
           let z = ap count_of e ∙ counts ∙ sym (counted s b) in
           omega (arith, z, few s b, slots_few fine)
 
-  pub counted_few : {v : Verdict} {left : List ℕ} → Walked s b old v left → count_of v ≤ 3000
+  pub counted_few : {v : Result Verdict CaptureError} {left : List ℕ} → Walked s b old v left → count_of v ≤ 3000
   counted_few p = rw p.answered count_few
 
-  pub walks : {v : Verdict} {left : List ℕ} → Walked s b old v left → {r : SelWalk} → r ≡ walk_answer v → Walks s b old r left
+  pub walks : {v : Result Verdict CaptureError} {left : List ℕ} → Walked s b old v left → {r : SelWalk} → r ≡ walk_answer v → Walks s b old r left
   walks p e =
       record {
         answered = e ∙ ap walk_answer p.answered;

@@ -1,9 +1,7 @@
 -- What the functions for Platform Event Messages say and leave is what the library's own do. Assumes nothing.
 use Rattle.std.specs.Prelude.{ℕ, ◌≡◌, List}
-use Rattle.platform_event.specs.Ways.{WritesMessage, WritesRecord, message_number, record_number}
+use Rattle.platform_event.specs.Ways.{MessageAnswer, RecordAnswer, WritesMessage, WritesRecord, message_number, record_number}
 use Rattle.platform_event.specs.declared.Beside.{Beside}
-use Rattle.platform_event.specs.declared.MessageAnswer.{MessageAnswer}
-use Rattle.platform_event.specs.declared.RecordAnswer.{RecordAnswer}
 use Rattle.flat_form.specs.Form.{Gives, refusal}
 use Rattle.flat_form.specs.declared.SelAnswer.{SelAnswer}
 use Rattle.flat_events.specs.Events.{message_flat, record_flat}

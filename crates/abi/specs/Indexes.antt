@@ -1,10 +1,11 @@
 -- The index of a capture's slots, in numbers. Assumes nothing.
-use Rattle.std.specs.Prelude.{ℕ, ◌≡◌, not, List, [], length, if◌then◌else◌}
+use Rattle.std.specs.Prelude.{ℕ, ◌≡◌, not, List, [], length, if◌then◌else◌, Result, Ok, Err}
 use Rattle.field.specs.Handed.{Handed, bad_capture, handed, wrong_index}
 use Rattle.capture.specs.Length.{bad_length}
 use Rattle.index.specs.Check.{right_index}
 use Rattle.index.specs.Walk.{list_indexed, walk_indexed}
-use Rattle.index.specs.declared.IndexedVerdict.{IndexedVerdict}
+use Rattle.capture.specs.declared.Verdict.{Verdict}
+use Rattle.index.specs.declared.IndexError.{IndexError}
 use Rattle.index_make.specs.Add.{added_hands, added_in}
 use Rattle.index_make.specs.Make.{made_hands, made_in}
 use Rattle.flat_form.specs.Form.{refusal}
@@ -29,9 +30,10 @@ check_hands s x =
     if not (right_index s x) then wrong_index else
     handed 0 []
 
-abbrev pub indexed_answer : IndexedVerdict → SelWalk
-indexed_answer (IndexedVerdict.Walked v) = walk_answer v
-indexed_answer IndexedVerdict.WrongIndex = walked wrong_index.number 0 0 0 0
+abbrev pub indexed_answer : Result Verdict IndexError → SelWalk
+indexed_answer (Ok v) = walk_answer (Ok v)
+indexed_answer (Err (IndexError.Capture e)) = walk_answer (Err e)
+indexed_answer (Err IndexError.WrongIndex) = walked wrong_index.number 0 0 0 0
 
 -- The promise of the walk with an index: what it answers, and what it leaves of the lent list.
 pub record WalksIndexed (s x : List ℕ) (b : ℕ) (old : List ℕ) (r : SelWalk) (left : List ℕ) : Type 0 where

@@ -1,6 +1,6 @@
 -- What `sel_length` says of a length is what `sel_decode` then says of every answer of that length, and of its first `sel_bytes_that_count` bytes;
 -- what `sel_slots_length` says of one is what `sel_walk` then says. Assumes nothing.
-use Rattle.std.specs.Prelude.{ℕ, ◌≤◌, ◌<◌, ◌≡◌, List, ◌↔◌, ◌⊎◌, length, take}
+use Rattle.std.specs.Prelude.{ℕ, ◌≤◌, ◌<◌, ◌≡◌, List, ◌↔◌, ◌⊎◌, length, take, Some}
 use Rattle.field.specs.Bits.{Bytes}
 use Rattle.answers.specs.declared.AnswerKind.{AnswerKind}
 use Rattle.capture.specs.Length.{slots_hands}
@@ -18,19 +18,19 @@ use Rattle.abi.specs.declared.walk.SelWalk.{SelWalk}
 -- of a letter that names the kind of answer
 pub record LengthSays (letter : ℕ) (kind : AnswerKind) (n : ℕ) : Type 0 where
   -- where it says a number other than 0, every answer of that length is refused by that number, with what it carries, whatever output is lent
-  pub refused : kind_of letter ≡ Kind.Answer kind → ((length_said letter n).number ≡ 0 → ⊥) → (s out left : List ℕ) (r : SelAnswer) → Bytes n s
+  pub refused : kind_of letter ≡ Some (Kind.Answer kind) → ((length_said letter n).number ≡ 0 → ⊥) → (s out left : List ℕ) (r : SelAnswer) → Bytes n s
       → Gives (flat_of letter s) out r left → r ≡ length_said letter n
   -- which is 1, with the length that the kind needs, exactly for a shorter one, and 8 exactly for a longer info answer
-  pub short : kind_of letter ≡ Kind.Answer kind → (length_said letter n ≡ said 1 (letter_bytes letter)) ↔ (n < letter_bytes letter)
-  pub long : kind_of letter ≡ Kind.Answer kind → (length_said letter n ≡ said 8 0) ↔ ((kind ≡ AnswerKind.Info) × (letter_bytes letter < n))
-  pub two : kind_of letter ≡ Kind.Answer kind → ((length_said letter n).number ≡ 0 → ⊥) → (length_said letter n ≡ said 1 (letter_bytes letter)) ⊎ (length_said letter n ≡ said 8 0)
+  pub short : kind_of letter ≡ Some (Kind.Answer kind) → (length_said letter n ≡ said 1 (letter_bytes letter)) ↔ (n < letter_bytes letter)
+  pub long : kind_of letter ≡ Some (Kind.Answer kind) → (length_said letter n ≡ said 8 0) ↔ ((kind ≡ AnswerKind.Info) × (letter_bytes letter < n))
+  pub two : kind_of letter ≡ Some (Kind.Answer kind) → ((length_said letter n).number ≡ 0 → ⊥) → (length_said letter n ≡ said 1 (letter_bytes letter)) ⊎ (length_said letter n ≡ said 8 0)
   -- where it says 0, some answer of that length is accepted
-  pub readable : kind_of letter ≡ Kind.Answer kind → (length_said letter n).number ≡ 0
+  pub readable : kind_of letter ≡ Some (Kind.Answer kind) → (length_said letter n).number ≡ 0
       → (length_said letter n ≡ said 0 0) × ((s : List ℕ) × Bytes n s × ((flat : List ℕ) × (flat_of letter s ≡ taken flat)))
   -- it then has the bytes that count, at most 18, and these alone come to the same: so `sel_decode` answers and writes the same of them
-  pub there : kind_of letter ≡ Kind.Answer kind → (length_said letter n).number ≡ 0 → letter_bytes letter ≤ n
-  pub few : kind_of letter ≡ Kind.Answer kind → letter_bytes letter ≤ 18
-  pub cut : kind_of letter ≡ Kind.Answer kind → (length_said letter n).number ≡ 0 → (s : List ℕ) → length s ≡ n
+  pub there : kind_of letter ≡ Some (Kind.Answer kind) → (length_said letter n).number ≡ 0 → letter_bytes letter ≤ n
+  pub few : kind_of letter ≡ Some (Kind.Answer kind) → letter_bytes letter ≤ 18
+  pub cut : kind_of letter ≡ Some (Kind.Answer kind) → (length_said letter n).number ≡ 0 → (s : List ℕ) → length s ≡ n
       → flat_of letter (take (letter_bytes letter) s) ≡ flat_of letter s
 
 pub record SlotsSay (len : ℕ) : Type 0 where

@@ -4,7 +4,7 @@ ghost use Rattle.connection.specs.Channel.{channel_hands, valid_channel};
 ghost use Rattle.flat_form.specs.Form.{refusal};
 ghost use Rattle.abi.specs.Units.{unit_hands};
 
-use connection::{Channel, LogicalUnit, NewChannel, NewUnit};
+use connection::{Channel, InvalidChannel, LogicalUnit};
 use field::numbers::INVALID_CHANNEL;
 use flat_form::{SelAnswer, no_question, refused};
 
@@ -13,11 +13,11 @@ pub extern "C" fn sel_channel(number: u8) -> SelAnswer
     ensures { result ≡ refusal (channel_hands valid_channel number) }
 {
     match Channel::new(number) {
-        NewChannel::Valid(channel) => SelAnswer {
+        Ok(channel) => SelAnswer {
             number: 0,
             value: channel.value() as usize,
         },
-        NewChannel::Invalid(n) => refused(INVALID_CHANNEL, n as usize),
+        Err(InvalidChannel(n)) => refused(INVALID_CHANNEL, n as usize),
     }
 }
 
@@ -25,11 +25,11 @@ pub extern "C" fn sel_channel(number: u8) -> SelAnswer
 pub extern "C" fn sel_unit(number: u8) -> SelAnswer
     ensures { result ≡ refusal (unit_hands number) }
 {
-    match LogicalUnit::new(number) {
-        NewUnit::Valid(unit) => SelAnswer {
+    match LogicalUnit::try_from(number) {
+        Ok(unit) => SelAnswer {
             number: 0,
-            value: unit.value() as usize,
+            value: u8::from(unit) as usize,
         },
-        NewUnit::Invalid => no_question(),
+        Err(_) => no_question(),
     }
 }

@@ -4,13 +4,12 @@ ghost use Rattle.index.specs.Find.{find_indexed};
 ghost use Rattle.abi.specs.Indexes.{AddsIndex, MakesIndex, WalksIndexed, check_hands};
 ghost use Rattle.abi.specs.Walks.{found_answer};
 
-use crate::walk::{SelFound, SelWalk, in_numbers};
-use capture::{Found, SlotsAnswer};
+use crate::walk::{SelFound, SelWalk, in_numbers, in_two};
+use capture::CaptureError;
 use field::numbers::{BAD_CAPTURE, WRONG_INDEX};
 use flat_form::{SelAnswer, no_room, refused, written};
 use ids::RecordId;
-use index::IndexedVerdict;
-use index_make::{AddedIndex, MadeIndex};
+use index::IndexError;
 
 // Makes the index in front of one lent slice, with a second one of as many places.
 #[unsafe(no_mangle)]
@@ -18,9 +17,9 @@ pub extern "C" fn sel_index_make(slots: &[u8], index: &mut [u16], scratch: &mut 
     ensures { MakesIndex slots.now index.old scratch.old result index.new scratch.new }
 {
     match index_make::make_index(slots, index, scratch) {
-        MadeIndex::Made(n) => written(n),
-        MadeIndex::NoRoom(n) => no_room(n),
-        MadeIndex::BadCapture => refused(BAD_CAPTURE, 0),
+        Ok(n) => written(n),
+        Err(CaptureError::NoRoom(n)) => no_room(n),
+        Err(CaptureError::BadCapture) => refused(BAD_CAPTURE, 0),
     }
 }
 
@@ -30,10 +29,10 @@ pub extern "C" fn sel_index_add(slots: &[u8], index: &mut [u16]) -> SelAnswer
     ensures { AddsIndex slots.now index.old result index.new }
 {
     match index_make::add_to_index(slots, index) {
-        AddedIndex::Added(n) => written(n),
-        AddedIndex::NoRoom(n) => no_room(n),
-        AddedIndex::WrongIndex => refused(WRONG_INDEX, 0),
-        AddedIndex::BadCapture => refused(BAD_CAPTURE, 0),
+        Ok(n) => written(n),
+        Err(IndexError::Capture(CaptureError::NoRoom(n))) => no_room(n),
+        Err(IndexError::Capture(CaptureError::BadCapture)) => refused(BAD_CAPTURE, 0),
+        Err(IndexError::WrongIndex) => refused(WRONG_INDEX, 0),
     }
 }
 
@@ -42,23 +41,22 @@ pub extern "C" fn sel_index_add(slots: &[u8], index: &mut [u16]) -> SelAnswer
 pub extern "C" fn sel_index_check(slots: &[u8], index: &[u16]) -> u32
     ensures { result ≡ (check_hands slots.now index.now).number }
 {
-    let SlotsAnswer::MayBeWalked = capture::slots_answer(slots.len()) else {
-        return BAD_CAPTURE;
-    };
-    if index::check_index(slots, index) {
-        return 0;
+    match capture::slots_answer(slots.len()) {
+        Ok(()) => {
+            if index::check_index(slots, index) {
+                return 0;
+            }
+            WRONG_INDEX
+        }
+        Err(_) => BAD_CAPTURE,
     }
-    WRONG_INDEX
 }
 
 #[unsafe(no_mangle)]
 pub extern "C" fn sel_find_indexed(slots: &[u8], index: &[u16], id: u16) -> SelFound
     ensures { result ≡ found_answer (find_indexed slots.now index.now id) }
 {
-    let Found::At(i) = index::find_indexed(slots, index, RecordId::new_raw(id)) else {
-        return SelFound { found: 0, slot: 0 };
-    };
-    SelFound { found: 1, slot: i }
+    in_two(index::find_indexed(slots, index, RecordId::new_raw(id)))
 }
 
 #[unsafe(no_mangle)]
@@ -71,8 +69,9 @@ pub extern "C" fn sel_walk_indexed(
     ensures { WalksIndexed slots.now index.now budget list.old result list.new }
 {
     match index::walk_indexed(slots, index, budget, list) {
-        IndexedVerdict::Walked(verdict) => in_numbers(verdict),
-        IndexedVerdict::WrongIndex => SelWalk {
+        Ok(verdict) => in_numbers(Ok(verdict)),
+        Err(IndexError::Capture(e)) => in_numbers(Err(e)),
+        Err(IndexError::WrongIndex) => SelWalk {
             number: WRONG_INDEX,
             verdict: 0,
             ask: 0,

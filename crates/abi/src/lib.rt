@@ -131,9 +131,9 @@ pub extern "C" fn sel_bytes_that_count(kind: u8) -> usize
     ensures { result ≡ letter_bytes kind }
 {
     match flat::kind_of(kind) {
-        Kind::Answer(asked) => answers::bytes_that_count(asked),
-        Kind::Other(_) => 0,
-        Kind::NoKind => 0,
+        Some(Kind::Answer(asked)) => answers::bytes_that_count(asked),
+        Some(Kind::Other(_)) => 0,
+        None => 0,
     }
 }
 

@@ -1,11 +1,13 @@
 // A record read by parts: the list of reads, the request for one, and the answers joined.
+ghost use Rattle.std.specs.Prelude.{◌≡◌, ◌≤◌};
+ghost use Rattle.field.specs.Handed.{value_of};
 ghost use Rattle.flat_form.specs.Form.{Gives};
-ghost use Rattle.partial.specs.Join.{joining};
+ghost use Rattle.partial.specs.Join.{joining, number_of};
 ghost use Rattle.flat_parts.specs.Parts.{part_flat, part_of, reads_flat};
 ghost use Rattle.abi.specs.Parts.{JoinsPart};
 
 use flat_form::SelAnswer;
-use partial::Joining;
+use partial::{JoinError, Joining};
 
 // The number, and what it carries; the next id and how many bytes of the record are there.
 #[repr(C)]
@@ -42,18 +44,36 @@ pub extern "C" fn sel_request_part(
 pub extern "C" fn sel_join(m: u8, got: u8, next: u16, answer: &[u8], record: &mut [u8]) -> SelJoined
     ensures { JoinsPart (joining m got next) answer.now «record».old result «record».new }
 {
-    let before = Joining {
+    let mut joining = Joining {
         most: m,
         got: got as usize,
         next,
     };
-    let joined = before.take(answer, record);
-    let told = joined.answer;
-    let state = joined.state;
+    let told = joining.take(answer, record);
     SelJoined {
-        number: told.number() as u32,
-        value: told.value() as u32,
-        next: state.next,
-        got: state.got as u8,
+        number: number_in(told),
+        value: value_in(told),
+        next: joining.next,
+        got: joining.got as u8,
+    }
+}
+
+// The number of what became of an answer, and what it carries: both 0 where it was taken.
+fn number_in(told: Result<(), JoinError>) -> u32
+    ensures { result ≡ (number_of told).number }
+{
+    match told {
+        Ok(()) => 0,
+        Err(why) => why.number() as u32,
+    }
+}
+
+fn value_in(told: Result<(), JoinError>) -> u32
+    requires { value_of (number_of told) ≤ 18 }
+    ensures { result ≡ value_of (number_of told) }
+{
+    match told {
+        Ok(()) => 0,
+        Err(why) => why.value() as u32,
     }
 }

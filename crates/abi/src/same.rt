@@ -4,7 +4,7 @@ ghost use Rattle.connection.specs.Channel.{valid_channel};
 ghost use Rattle.same_entry.specs.Answer.{same_entry};
 ghost use Rattle.abi.specs.Sames.{refused_record, same_answer};
 
-use same_entry::SameAnswer;
+use same_entry::SameError;
 use sel::ParseEntryError;
 
 // The number of the refusal and what it carries, both 0 where none is; 1 where the entries are equal; the record that is refused, 1 or 2.
@@ -22,20 +22,20 @@ pub extern "C" fn sel_same_entry(a: &[u8], b: &[u8]) -> SelSame
     ensures { result ≡ same_answer (same_entry valid_channel a.now b.now) }
 {
     match same_entry::same_entry(a, b) {
-        SameAnswer::Equal => SelSame {
+        Ok(true) => SelSame {
             number: 0,
             value: 0,
             same: 1,
             refused: 0,
         },
-        SameAnswer::Different => SelSame {
+        Ok(false) => SelSame {
             number: 0,
             value: 0,
             same: 0,
             refused: 0,
         },
-        SameAnswer::FirstRefused(why) => refused_record(why, 1),
-        SameAnswer::SecondRefused(why) => refused_record(why, 2),
+        Err(SameError::First(why)) => refused_record(why, 1),
+        Err(SameError::Second(why)) => refused_record(why, 2),
     }
 }
 

@@ -11,6 +11,7 @@ ghost use Rattle.flat_form.specs.Form.{Gives, taken};
 ghost use Rattle.abi.specs.Filled.{Filled};
 
 use event_data::EventData;
+use event_offset::LentTexts;
 use flat_form::{SelAnswer, of_written};
 use storage::Timestamp;
 use typed_data::TypedData;
@@ -24,8 +25,7 @@ pub extern "C" fn sel_event_text(
 ) -> SelAnswer
     ensures { Gives (taken (event_text event_type sensor_type offset)) out.old result out.new }
 {
-    let w = event_offset::decode_event(event_type, sensor_type, offset, out);
-    of_written(w)
+    of_written(event_offset::decode_event(event_type, sensor_type, offset, out))
 }
 
 // The same from a lent store and its tables.
@@ -41,16 +41,12 @@ pub extern "C" fn sel_event_text_from<'a>(
 ) -> SelAnswer
     ensures { Gives (taken (lent_text store.now starts.now lengths.now event_type sensor_type offset)) out.old result out.new }
 {
-    let w = event_offset::decode_event_from(
+    let texts = LentTexts {
         store,
         starts,
         lengths,
-        event_type,
-        sensor_type,
-        offset,
-        out,
-    );
-    of_written(w)
+    };
+    of_written(texts.decode_event_from(event_type, sensor_type, offset, out))
 }
 
 // Fills the store and its tables, which are then lent for many texts.
@@ -58,8 +54,7 @@ pub extern "C" fn sel_event_text_from<'a>(
 pub extern "C" fn sel_texts(store: &mut [u8], starts: &mut [u16], lengths: &mut [u8]) -> SelAnswer
     ensures { Filled store.old starts.old lengths.old result store.new starts.new lengths.new }
 {
-    let w = event_offset::fill_texts(store, starts, lengths);
-    of_written(w)
+    of_written(event_offset::fill_texts(store, starts, lengths))
 }
 
 #[unsafe(no_mangle)]
@@ -67,8 +62,7 @@ pub extern "C" fn sel_data_text(b1: u8, b2: u8, b3: u8, out: &mut [u8]) -> SelAn
     ensures { Gives (taken (data_text (event_data_of (b1 ∷ b2 ∷ b3 ∷ [])))) out.old result out.new }
 {
     let d = EventData::parse(&[b1, b2, b3]);
-    let w = d.write_text(out);
-    of_written(w)
+    of_written(d.write_text(out))
 }
 
 #[unsafe(no_mangle)]
@@ -82,24 +76,21 @@ pub extern "C" fn sel_typed_text(
     ensures { Gives (taken (typed_text (typed_of event_type (b1 ∷ b2 ∷ b3 ∷ [])))) out.old result out.new }
 {
     let d = TypedData::parse(event_type, &[b1, b2, b3]);
-    let w = d.write_text(out);
-    of_written(w)
+    of_written(d.write_text(out))
 }
 
 #[unsafe(no_mangle)]
 pub extern "C" fn sel_time_text(time: u32, out: &mut [u8]) -> SelAnswer
     ensures { Gives (taken (time_text time)) out.old result out.new }
 {
-    let t = Timestamp::from_u32(time);
-    let w = t.write_text(out);
-    of_written(w)
+    let t = Timestamp::from(time);
+    of_written(t.write_text(out))
 }
 
 #[unsafe(no_mangle)]
 pub extern "C" fn sel_log_time_text(time: u32, out: &mut [u8]) -> SelAnswer
     ensures { Gives (taken (log_time_text time)) out.old result out.new }
 {
-    let t = Timestamp::from_u32(time);
-    let w = t.write_log_text(out);
-    of_written(w)
+    let t = Timestamp::from(time);
+    of_written(t.write_log_text(out))
 }

@@ -4,7 +4,7 @@ ghost use Rattle.capture.specs.Length.{slots_hands};
 ghost use Rattle.capture.specs.Slots.{first_slot};
 ghost use Rattle.abi.specs.Walks.{Walks, count_of, found_answer, walk_answer};
 
-use capture::{Found, SlotsAnswer, Verdict};
+use capture::{CaptureError, Verdict};
 use field::numbers::{BAD_CAPTURE, NO_ROOM};
 use ids::RecordId;
 
@@ -33,8 +33,8 @@ pub extern "C" fn sel_slots_length(len: usize) -> u32
     ensures { result ≡ (slots_hands len).number }
 {
     match capture::slots_answer(len) {
-        SlotsAnswer::MayBeWalked => 0,
-        SlotsAnswer::BadCapture => BAD_CAPTURE,
+        Ok(()) => 0,
+        Err(_) => BAD_CAPTURE,
     }
 }
 
@@ -42,10 +42,17 @@ pub extern "C" fn sel_slots_length(len: usize) -> u32
 pub extern "C" fn sel_find(slots: &[u8], id: u16) -> SelFound
     ensures { result ≡ found_answer (first_slot slots.now id) }
 {
-    let Found::At(i) = capture::find(slots, RecordId::new_raw(id)) else {
-        return SelFound { found: 0, slot: 0 };
-    };
-    SelFound { found: 1, slot: i }
+    in_two(capture::find(slots, RecordId::new_raw(id)))
+}
+
+// What a search found, in numbers.
+pub(crate) fn in_two(found: Option<usize>) -> SelFound
+    ensures { result ≡ found_answer found }
+{
+    match found {
+        Some(slot) => SelFound { found: 1, slot },
+        None => SelFound { found: 0, slot: 0 },
+    }
 }
 
 #[unsafe(no_mangle)]
@@ -56,47 +63,47 @@ pub extern "C" fn sel_walk(slots: &[u8], budget: usize, list: &mut [u16]) -> Sel
 }
 
 // A verdict in numbers: what it counts fits 32 bits.
-pub(crate) fn in_numbers(verdict: Verdict) -> SelWalk
+pub(crate) fn in_numbers(verdict: Result<Verdict, CaptureError>) -> SelWalk
     requires { count_of verdict ≤ 3000 }
     ensures { result ≡ walk_answer verdict }
 {
     match verdict {
-        Verdict::Ended { read } => SelWalk {
+        Ok(Verdict::Ended { read }) => SelWalk {
             number: 0,
             verdict: 0,
             ask: 0,
             read: read as u32,
             needed: 0,
         },
-        Verdict::Missing { ask, read } => SelWalk {
+        Ok(Verdict::Missing { ask, read }) => SelWalk {
             number: 0,
             verdict: 1,
             ask: ask.value(),
             read: read as u32,
             needed: 0,
         },
-        Verdict::Spent { ask, read } => SelWalk {
+        Ok(Verdict::Spent { ask, read }) => SelWalk {
             number: 0,
             verdict: 2,
             ask: ask.value(),
             read: read as u32,
             needed: 0,
         },
-        Verdict::Circle { read } => SelWalk {
+        Ok(Verdict::Circle { read }) => SelWalk {
             number: 0,
             verdict: 3,
             ask: 0,
             read: read as u32,
             needed: 0,
         },
-        Verdict::NoRoom(n) => SelWalk {
+        Err(CaptureError::NoRoom(n)) => SelWalk {
             number: NO_ROOM,
             verdict: 0,
             ask: 0,
             read: 0,
             needed: n as u32,
         },
-        Verdict::BadCapture => SelWalk {
+        Err(CaptureError::BadCapture) => SelWalk {
             number: BAD_CAPTURE,
             verdict: 0,
             ask: 0,

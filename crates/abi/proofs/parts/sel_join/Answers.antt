@@ -3,12 +3,11 @@ use native.Mathlib.Omega.{arith}
 use Rattle.abi.proofs.Parting.{got_fits, joins, value_fits}
 use Rattle.abi.proofs.parts.sel_join.Goals as goal
 
+pub value_in-requires : goal.value_in-requires
+value_in-requires c = value_fits c.take-told.ensures
+
 pub returns : goal.returns
-returns c =
-    joins c.take-joined.ensures c.number.ensures c.value.ensures
+returns c = joins c.take-told.ensures c.number_in.ensures c.value_in.ensures
 
-pub overflow_cast-result-2 : goal.overflow_cast-result-2
-overflow_cast-result-2 c = omega (arith, value_fits c.take-joined.ensures c.value.ensures)
-
-pub overflow_cast-result-3 : goal.overflow_cast-result-3
-overflow_cast-result-3 c = omega (arith, got_fits c.take-joined.ensures (omega arith))
+pub overflow_cast-result : goal.overflow_cast-result
+overflow_cast-result c = omega (arith, got_fits c.take-told.ensures (omega arith))

@@ -1,18 +1,18 @@
 // A record read by parts.
 ghost use Rattle.std.specs.Prelude.{◌≡◌};
-ghost use Rattle.partial.specs.Join.{Takes, begun};
+ghost use Rattle.partial.specs.Join.{Takes, begun, held};
 ghost use Rattle.partial.specs.Reads.{Lists};
 ghost use Rattle.partial.specs.Request.{Requests};
 
-use partial::{GetEntryPart, Joined, Joining, PartAnswer, ReadsAnswer};
+use partial::{GetEntryPart, JoinError, Joining, PartError, ReadsError};
 
-pub fn request(part: GetEntryPart, out: &mut [u8]) -> PartAnswer
+pub fn request(part: GetEntryPart, out: &mut [u8]) -> Result<usize, PartError>
     ensures { Requests part out.old result out.new }
 {
     part.write_request(out)
 }
 
-pub fn reads(m: u8, out: &mut [u8]) -> ReadsAnswer
+pub fn reads(m: u8, out: &mut [u8]) -> Result<usize, ReadsError>
     ensures { Lists m out.old result out.new }
 {
     partial::reads(m, out)
@@ -24,8 +24,8 @@ pub fn begin(m: u8) -> Joining
     Joining::new(m)
 }
 
-pub fn take(joining: Joining, answer: &[u8], out: &mut [u8]) -> Joined
-    ensures { Takes joining answer.now out.old result out.new }
+pub fn take(joining: &mut Joining, answer: &[u8], out: &mut [u8]) -> Result<(), JoinError>
+    ensures { Takes (held joining.old out.old) answer.now result (held joining.new out.new) }
 {
     joining.take(answer, out)
 }

@@ -1,4 +1,5 @@
 -- The cases. Assumes nothing.
+use Rattle.std.specs.Prelude.{Some, None, Ok}
 use Prim.Native.Nat.{ℕ, suc, ◌≤◌}
 use mathlib.Core.Path.{◌≡◌, refl, ap, ◌∙◌}
 use mathlib.Core.Bool.{false}
@@ -18,15 +19,14 @@ use Rattle.sel_commands.specs.Reserve.{parse_reserve}
 use Rattle.capture.specs.Length.{bad_length}
 use Rattle.capture.specs.Slots.{count, first_from, first_slot}
 use Rattle.capture.specs.Walk.{chain, found_at, judge, listed, numbers, onward, tested, verdict, walk_of}
-use Rattle.capture.specs.declared.Found.{Found}
 use Rattle.claims.specs.Cases.{Cases, OneSlot, TwoSlots}
 
 -- a capture that is good, with places enough, is walked
-walks : (s : List ℕ) (b room : ℕ) → bad_length (length s) ≡ false → count s ≤ room → walk_of s b room ≡ verdict s b
+walks : (s : List ℕ) (b room : ℕ) → bad_length (length s) ≡ false → count s ≤ room → walk_of s b room ≡ Ok (verdict s b)
 unfolding walk_of tested
 walks s b room g h = rw (g, le-ltb room (count s) h)
 
-first_none : first_slot [] 0x0000 ≡ Found.Nothing
+first_none : first_slot [] 0x0000 ≡ None
 unfolding first_slot first_from
 first_none = refl
 
@@ -38,11 +38,11 @@ module _ (s old : List ℕ) (t : TwoSlots s old) where
   unfolding bad_length
   good_40 = rw t.long
 
-  first_two : first_slot s 0x0000 ≡ Found.At 0
+  first_two : first_slot s 0x0000 ≡ Some 0
   unfolding first_slot first_from
   first_two = rw (count_2, t.asked0)
 
-  second_two : first_slot s 0x0001 ≡ Found.At 1
+  second_two : first_slot s 0x0001 ≡ Some 1
   unfolding first_slot first_from
   second_two = rw (count_2, t.asked0, t.asked1)
 
@@ -54,7 +54,7 @@ module _ (s old : List ℕ) (t : OneSlot s old) where
   unfolding bad_length
   good_20 = rw t.long
 
-  first_one : first_slot s 0x0000 ≡ Found.At 0
+  first_one : first_slot s 0x0000 ≡ Some 0
   unfolding first_slot first_from
   first_one = rw (count_1, t.asked0)
 

@@ -1,23 +1,21 @@
 -- Demand 1. Assumes nothing.
-use Rattle.std.specs.Prelude.{if◌then◌else◌}
+use Rattle.std.specs.Prelude.{if◌then◌else◌, Result, Ok, Err, Option, Some, None}
 use Prim.Native.Nat.{ℕ, ◌≤◌, ◌<◌}
 use mathlib.Core.Path.{◌≡◌, refl, sym, ap, subst, ◌∙◌}
-use mathlib.Core.Bool.{Bool, not, true, ◌||◌}
+use mathlib.Core.Bool.{Bool, not, true}
 use mathlib.Core.List.{List, []}
 use mathlib.Core.Logic.{◌↔◌, inl, inr}
 use native.Mathlib.Omega.{arith}
-use native.Mathlib.Decide.{dec_le, ℕ_discrete}
-use borrow.Author.Tests.{le-leb, lt-leb, ne_eqb}
-use lib.Dec.{eqb, leb, ltb}
+use native.Mathlib.Decide.{dec_le}
+use lib.Dec.{eqb, ltb}
 use lib.ListN.{length, drop}
 use Rattle.field.specs.Bits.{byte_at, le32_at}
 use Rattle.field.specs.Choose.{within}
 use Rattle.field.specs.Handed.{Handed}
 use Rattle.field.specs.Rows.{LongEnough, Rows, Taken, accepted, long, too_short}
-use Rattle.field.proofs.Choices.{clash, either}
+use Rattle.field.proofs.Choices.{either}
 use Rattle.field.proofs.Rows.{rows_are}
-use Rattle.text.specs.Written.{Wrote, number_of as written_number}
-use Rattle.text.specs.declared.Written.{Written}
+use Rattle.text.specs.Written.{Written, Wrote, number_of as written_number}
 use Rattle.text.proofs.Room.{room}
 use Rattle.connection.specs.Channel.{valid_channel}
 use Rattle.connection.specs.Version.{is_version, valid_by}
@@ -31,14 +29,14 @@ use Rattle.sel_commands.specs.Info.{InfoRow}
 use Rattle.sel_commands.specs.Reserve as Reserve
 use Rattle.sel_commands.specs.Reserve.{ReserveRow}
 use Rattle.answers.specs.Answer.{Answer, number_of}
-use Rattle.answers.specs.Length.{length_answer, length_hands, number_of as length_number}
+use Rattle.answers.specs.Length.{LengthAnswer, length_answer, length_hands, number_of as length_number}
 use Rattle.answers.specs.Rows.{Row, hands_of}
 use Rattle.answers.specs.declared.AnswerKind.{AnswerKind}
-use Rattle.answers.specs.declared.LengthAnswer.{LengthAnswer}
 use Rattle.answers.proofs.BytesThatCount.{bytes_that_count_lem}
 use Rattle.answers.proofs.LengthDecides.{decides}
 use Rattle.answers.proofs.Rows.{answer_rows}
 use Rattle.capture.specs.Walked.{Walked, number_of as walk_number}
+use Rattle.capture.specs.declared.CaptureError.{CaptureError}
 use Rattle.capture.specs.declared.Verdict.{Verdict}
 use Rattle.capture.proofs.Refusals.{refusals}
 use Rattle.capture.proofs.SlotsLength.{slots_length}
@@ -60,11 +58,10 @@ use Rattle.flat.specs.declared.Question.{Question}
 use Rattle.flat.proofs.Counts.{flat_counts}
 use Rattle.flat.proofs.Rows.{exactly, flat_rows, too_long, decides as decides-flat, turned as turned_away_lem}
 use Rattle.slot_line.specs.Input.{judge_input, slots_of}
-use Rattle.slot_line.specs.declared.Judged.{Judged}
-use Rattle.sel_log.specs.Closing.{number_of as log_number}
+use Rattle.slot_line.specs.declared.InputError.{InputError}
+use Rattle.sel_log.specs.Closing.{Closing, number_of as log_number}
 use Rattle.sel_log.specs.Log.{Logged, closing_by, closing_of, left_by}
 use Rattle.sel_log.specs.Verdict.{settled_of}
-use Rattle.sel_log.specs.declared.Closing.{Closing}
 use Rattle.sel_log.specs.declared.Settled.{Settled}
 use Rattle.claims.specs.Demand1.{Demand1, OneOf, Valid}
 use Rattle.promises.specs.Promises.{Promised}
@@ -76,18 +73,7 @@ parsed kind s r p = rows_are (sym p.numbered) (answer_rows valid_channel kind s)
 -- the valid channels
 channels : (n : ℕ) → (valid_channel n ≡ true) ↔ Valid n
 unfolding valid_channel
-channels n = (λ v. by (dec_le n 0xB) (ℕ_discrete n 0xE) (ℕ_discrete n 0xF) v, back)
-  where
-    by : Dec (n ≤ 0xB) → Dec (n ≡ 0xE) → Dec (n ≡ 0xF) → (leb n 0xB || eqb n 0xE || eqb n 0xF) ≡ true → Valid n
-    by (yes h) d e v = inl (omega arith)
-    by (no h) (yes d) e v = inr (inl d)
-    by (no h) (no d) (yes e) v = inr (inr e)
-    by (no h) (no d) (no e) v = absurd (clash v (simp (lt-leb n 0xB (omega arith), ne_eqb n 0xE d, ne_eqb n 0xF e)))
-
-    back : Valid n → (leb n 0xB || eqb n 0xE || eqb n 0xF) ≡ true
-    back (inl h) = simp (le-leb n 0xB (omega arith))
-    back (inr (inl h)) = simp h
-    back (inr (inr h)) = simp h
+channels n = grind arith
 
 -- each row has one of the numbers 0 to 3, 8 and 9
 record_one : (s : List ℕ) (h : Handed) → RecordRow valid_channel s h → OneOf h
@@ -127,12 +113,7 @@ NotFour (taken bytes) = Unit {0}
 NotFour (refused h) = h.number ≡ 4 → ⊥
 
 one_not_four : (h : Handed) → OneOf h → h.number ≡ 4 → ⊥
-one_not_four h (inl a) e = omega arith
-one_not_four h (inr (inl a)) e = omega arith
-one_not_four h (inr (inr (inl a))) e = omega arith
-one_not_four h (inr (inr (inr (inl a)))) e = omega arith
-one_not_four h (inr (inr (inr (inr (inl a))))) e = omega arith
-one_not_four h (inr (inr (inr (inr (inr a))))) e = omega arith
+one_not_four h o e = grind arith
 
 decided_not_four : (kind : AnswerKind) (s bytes : List ℕ) → NotFour (decided (hands_of valid_channel kind s) bytes)
 unfolding decided
@@ -158,14 +139,12 @@ unfolding decided
 length_not_four letter n = by (kind_of letter)
   where
     one : (a : LengthAnswer) → (length_number a).number ≡ 4 → ⊥
-    one LengthAnswer.MayBeRead e = omega arith
-    one (LengthAnswer.NotEnoughData k) e = omega arith
-    one LengthAnswer.TooLong e = omega arith
+    one a e = grind arith
 
-    by : (kind : Kind) → NotFour (of_answer (λ k. decided (length_hands k n) []) no_question kind)
-    by (Kind.Answer kind) = either NotFour (eqb (length_hands kind n).number 0) _ _ tt (one (length_answer kind n))
-    by (Kind.Other question) = none
-    by Kind.NoKind = none
+    by : (kind : Option Kind) → NotFour (of_answer (λ k. decided (length_hands k n) []) no_question kind)
+    by (Some (Kind.Answer kind)) = either NotFour (eqb (length_hands kind n).number 0) _ _ tt (one (length_answer kind n))
+    by (Some (Kind.Other question)) = none
+    by None = none
 
 entry_of_not_four : (b : ℕ) (s : List ℕ) → (entry_hands_of b s).number ≡ 4 → ⊥
 unfolding entry_hands_of
@@ -182,28 +161,28 @@ answer_of_not_four b s =
     let other : (h : Handed) → Type 0 = λ h. h.number ≡ 4 → ⊥ in
     either other (not (is_version b)) _ _ (λ e. omega (arith, e)) (either other (ltb (length s) 18) _ _ (λ e. omega (arith, e)) (entry_of_not_four b (drop 2 s)))
 
-not_four : (kind : Kind) (s : List ℕ) → NotFour (flat_by kind s)
+not_four : (kind : Option Kind) (s : List ℕ) → NotFour (flat_by kind s)
 unfolding behind_version entry_flat_of get_entry_flat_of decided length_flat record_part_flat entry_text_flat event_data_flat event_data_text_flat typed_data_flat typed_data_text_flat event_text_flat time_text_flat log_time_text_flat record_id_flat request_flat
-not_four (Kind.Answer kind) s = subst NotFour (sym ((decides-flat kind).1 s)) (decided_not_four kind s _)
-not_four (Kind.Other Question.EntryText) s = decided_not_four AnswerKind.Entry s _
-not_four (Kind.Other Question.RecordPart) s = tt
-not_four (Kind.Other Question.EntryOf) s =
+not_four (Some (Kind.Answer kind)) s = subst NotFour (sym ((decides-flat kind).1 s)) (decided_not_four kind s _)
+not_four (Some (Kind.Other Question.EntryText)) s = decided_not_four AnswerKind.Entry s _
+not_four (Some (Kind.Other Question.RecordPart)) s = tt
+not_four (Some (Kind.Other Question.EntryOf)) s =
     let b = byte_at s 0 in
     either NotFour (eqb (length s) 0) _ _ none (either NotFour (eqb (entry_hands_of b (drop 1 s)).number 0) _ _ tt (entry_of_not_four b (drop 1 s)))
-not_four (Kind.Other Question.GetEntryOf) s =
+not_four (Some (Kind.Other Question.GetEntryOf)) s =
     let b = byte_at s 0 in
     either NotFour (eqb (length s) 0) _ _ none (either NotFour (eqb (answer_hands_of b (drop 1 s)).number 0) _ _ tt (answer_of_not_four b (drop 1 s)))
-not_four (Kind.Other Question.EventData) s = chosen (eqb (length s) 3) _ tt
-not_four (Kind.Other Question.EventDataText) s = chosen (eqb (length s) 3) _ tt
-not_four (Kind.Other Question.TypedData) s = chosen (eqb (length s) 4) _ tt
-not_four (Kind.Other Question.TypedDataText) s = chosen (eqb (length s) 4) _ tt
-not_four (Kind.Other Question.Length) s = chosen (eqb (length s) 5) _ (length_not_four (byte_at s 0) (le32_at s 1))
-not_four (Kind.Other Question.EventText) s = chosen (eqb (length s) 3) _ tt
-not_four (Kind.Other Question.TimeText) s = chosen (eqb (length s) 4) _ tt
-not_four (Kind.Other Question.LogTimeText) s = chosen (eqb (length s) 4) _ tt
-not_four (Kind.Other Question.RecordId) s = chosen (eqb (length s) 2) _ tt
-not_four (Kind.Other Question.Request) s = chosen (eqb (length s) (question_length (byte_at s 0))) _ (request_not_four _ _ _)
-not_four Kind.NoKind s = none
+not_four (Some (Kind.Other Question.EventData)) s = chosen (eqb (length s) 3) _ tt
+not_four (Some (Kind.Other Question.EventDataText)) s = chosen (eqb (length s) 3) _ tt
+not_four (Some (Kind.Other Question.TypedData)) s = chosen (eqb (length s) 4) _ tt
+not_four (Some (Kind.Other Question.TypedDataText)) s = chosen (eqb (length s) 4) _ tt
+not_four (Some (Kind.Other Question.Length)) s = chosen (eqb (length s) 5) _ (length_not_four (byte_at s 0) (le32_at s 1))
+not_four (Some (Kind.Other Question.EventText)) s = chosen (eqb (length s) 3) _ tt
+not_four (Some (Kind.Other Question.TimeText)) s = chosen (eqb (length s) 4) _ tt
+not_four (Some (Kind.Other Question.LogTimeText)) s = chosen (eqb (length s) 4) _ tt
+not_four (Some (Kind.Other Question.RecordId)) s = chosen (eqb (length s) 2) _ tt
+not_four (Some (Kind.Other Question.Request)) s = chosen (eqb (length s) (question_length (byte_at s 0))) _ (request_not_four _ _ _)
+not_four None s = none
 
 flat_four_lem : (q : Flat) {out left : List ℕ} (r : SelAnswer) → NotFour q → Told q out left r → r.number ≡ 4
     → (bytes : List ℕ) × (q ≡ taken bytes) × (length out < length bytes)
@@ -218,15 +197,18 @@ flat_room_lem letter s out left r g = (
   λ p. ap (λ (x : SelAnswer). x.number) (too_long p.0 (gives_is p.1 g) p.2),
 )
 
-flat_text_refused_lem : (letter : ℕ) → kind_of letter ≡ Kind.Other Question.EntryText → (s out left : List ℕ) (r : SelAnswer) → Gives (flat_of letter s) out r left
+flat_text_refused_lem : (letter : ℕ) → kind_of letter ≡ Some (Kind.Other Question.EntryText)
+    → (s out left : List ℕ) (r : SelAnswer) → Gives (flat_of letter s) out r left
     → (h : Handed) → Row valid_channel AnswerKind.Entry s h → (h.number ≡ 0 → ⊥) → r ≡ refusal h
 unfolding entry_text_flat
-flat_text_refused_lem letter k s out left r g = turned_away_lem (answer_rows valid_channel AnswerKind.Entry s).rows _ (gives_is (ap (λ (x : Kind). flat_by x s) k) g)
+flat_text_refused_lem letter k s out left r g =
+    turned_away_lem (answer_rows valid_channel AnswerKind.Entry s).rows _ (gives_is (ap (λ (x : Option Kind). flat_by x s) k) g)
 
-flat_text_lem : (letter : ℕ) → kind_of letter ≡ Kind.Other Question.EntryText → (s out left : List ℕ) (r : SelAnswer) → Gives (flat_of letter s) out r left
+flat_text_lem : (letter : ℕ) → kind_of letter ≡ Some (Kind.Other Question.EntryText)
+    → (s out left : List ℕ) (r : SelAnswer) → Gives (flat_of letter s) out r left
     → (n : ℕ) → (n ≡ 0 → ⊥) → (n ≡ 4 → ⊥) → (r.number ≡ n) ↔ ((h : Handed) × Row valid_channel AnswerKind.Entry s h × (h.number ≡ n))
 unfolding entry_text_flat
-flat_text_lem letter k s out left r g = exactly (answer_rows valid_channel AnswerKind.Entry s).rows _ (gives_is (ap (λ (x : Kind). flat_by x s) k) g)
+flat_text_lem letter k s out left r g = exactly (answer_rows valid_channel AnswerKind.Entry s).rows _ (gives_is (ap (λ (x : Option Kind). flat_by x s) k) g)
 
 unwritten : (text out left : List ℕ) (r : Written) → Wrote text out r left → ((written_number r).number ≡ 0 → ⊥) → left ≡ out
 unwritten text out left r w n = by (dec_le (length text) (length out))
@@ -235,21 +217,20 @@ unwritten text out left r w n = by (dec_le (length text) (length out))
     by (yes h) = absurd (n (((room text out left r).zero w).1 h))
     by (no h) = (room text out left r).untouched w (omega arith)
 
-unlisted : (s : List ℕ) (b : ℕ) (old left : List ℕ) (r : Verdict) → Walked s b old r left → ((walk_number r).number ≡ 0 → ⊥) → left ≡ old
-unlisted s b old left r w n = w.leaves ∙ (refusals s b old).untouched (λ e. n (ap (λ (v : Verdict). (walk_number v).number) w.answered ∙ e))
+unlisted : (s : List ℕ) (b : ℕ) (old left : List ℕ) (r : Result Verdict CaptureError) → Walked s b old r left → ((walk_number r).number ≡ 0 → ⊥) → left ≡ old
+unlisted s b old left r w n = w.leaves ∙ (refusals s b old).untouched (λ e. n (ap (λ (v : Result Verdict CaptureError). (walk_number v).number) w.answered ∙ e))
 
 -- a verdict has the number 0
-walked_zero : (v : Settled) → (log_number (Closing.Walked v)).number ≡ 0
+walked_zero : (v : Settled) → (log_number (Ok v)).number ≡ 0
 walked_zero (Settled.Ended read) = refl
 walked_zero (Settled.Missing ask read) = refl
 walked_zero (Settled.Circle read) = refl
 
 module _ (input slots list slots_left list_left : List ℕ) (r : Closing) (l : Logged input slots list r slots_left list_left) (n : (log_number r).number ≡ 0 → ⊥) where
-  unread_by : (j : Judged) → judge_input input ≡ j → (slots_left ≡ slots) × (list_left ≡ list)
+  unread_by : (j : Result ℕ InputError) → judge_input input ≡ j → (slots_left ≡ slots) × (list_left ≡ list)
   unfolding closing_of closing_by left_by
-  unread_by (Judged.Slots k) e = absurd (n (ap (λ (x : Handed). x.number) l.numbered ∙ rw e (walked_zero (settled_of (slots_of input)))))
-  unread_by (Judged.BadLine k) e = (l.slots ∙ rw e, l.list ∙ rw e)
-  unread_by Judged.TooMany e = (l.slots ∙ rw e, l.list ∙ rw e)
+  unread_by (Ok k) e = absurd (n (ap (λ (x : Handed). x.number) l.numbered ∙ rw e (walked_zero (settled_of (slots_of input)))))
+  unread_by (Err why) e = (l.slots ∙ rw e, l.list ∙ rw e)
 
 pub demand_1 : Demand1
 demand_1 =

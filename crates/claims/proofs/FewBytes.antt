@@ -1,6 +1,6 @@
 -- The claim of specs/FewBytes.antt. Assumes nothing.
 use Prim.Native.Nat.{ℕ, ◌≤◌, ◌<◌}
-use mathlib.Core.Path.{◌≡◌, refl, sym}
+use mathlib.Core.Path.{◌≡◌, refl, sym, ap}
 use mathlib.Core.Bool.{Bool}
 use mathlib.Core.List.{List, ◌++◌}
 use lib.ListN.{length, take, drop}
@@ -9,7 +9,8 @@ use Rattle.field.specs.Bits.{le_bytes}
 use Rattle.field.specs.Lengths.{entry_bytes}
 use Rattle.field.proofs.Rows.{rows_are}
 use Rattle.sel.specs.Entry.{parse_entry}
-use Rattle.get_entry.specs.GetEntry.{beside_next, entry_request, parse_answer}
+use Rattle.get_entry.specs.GetEntry.{entry_request, parse_answer, with_next}
+use Rattle.partial.specs.Join.{Held}
 use Rattle.partial.specs.Joined.{Between, answers_of, empty, hand_in}
 use Rattle.partial.specs.Request.{part_request}
 use Rattle.partial.proofs.Joins.{joins}
@@ -23,7 +24,7 @@ use Rattle.claims.specs.FewBytes.{FewBytes}
 read : (valid : ℕ → Bool) (m : ℕ) → 1 ≤ m → (next : ℕ) → next < 65536 → (bytes : List ℕ) → length bytes ≡ entry_bytes → (old : List ℕ)
     → entry_bytes ≤ length old → (handed : List (List ℕ)) → Between (empty m old) (answers_of bytes next m) handed
     → parse_answer valid (le_bytes 2 (hand_in (empty m old) handed).state.next ++ take entry_bytes (hand_in (empty m old) handed).bytes)
-    ≡ beside_next next (parse_entry valid bytes)
+    ≡ with_next next (parse_entry valid bytes)
 read valid m g next n bytes l old r handed b =
     rw ((joins m g next n bytes l old r).between handed b, take_at bytes (drop entry_bytes old) entry_bytes l) (read_on_lem valid next n bytes l).entry
 
@@ -39,8 +40,8 @@ few_bytes_lem =
       list = λ m out left r p. list_rows m out p;
       listed = λ m out left r p. listed m out p;
       unlisted = λ m out left r p. unlisted m out p;
-      answer = λ j s old left r p. rows_are (sym p.numbered) (join_rows j s old).rows;
-      refused = λ j s old left r p. p.refused;
+      answer = λ j k s old left r p. rows_are (sym p.numbered) (join_rows j s old).rows;
+      refused = λ j k s old left r p n. (ap (λ (h : Held). h.state) (p.refused n), ap (λ (h : Held). h.bytes) (p.refused n));
       joins = joins;
       only = joins_only;
       read_on = read_on_lem;

@@ -1,23 +1,22 @@
 -- The fields of every good answer. Assumes nothing.
-use Rattle.std.specs.Prelude.{if◌then◌else◌}
+use Rattle.std.specs.Prelude.{if◌then◌else◌, Ok, Err}
 use Prim.Native.Nat.{ℕ, ◌/◌, ◌%◌, ◌≤◌, ◌<◌}
-use mathlib.Core.Path.{◌≡◌, refl, sym, ap, subst, ◌∙◌}
+use mathlib.Core.Path.{◌≡◌, refl, sym, ap, ◌∙◌}
 use mathlib.Core.Bool.{Bool, true, false}
 use mathlib.Core.List.{List, [], ◌∷◌, ◌++◌}
 use mathlib.Core.Logic.{◌↔◌}
 use native.Mathlib.Omega.{arith}
 use borrow.Author.Tests.{eq-eqb, eqb-true, le-ltb, lt-ltb, ne_eqb}
-use lib.Dec.{eqb, ltb}
+use lib.Dec.{eqb}
 use lib.Seq.{drop_at, take_at}
 use lib.ListN.{length, drop, take, length-drop, length-take, replicate}
 use Rattle.field.specs.Bits.{byte_at, bits, bytes_at, le16_at, le24_at, le32_at}
-use Rattle.field.specs.Choose.{within}
+use Rattle.field.proofs.Rows.{rows_are}
 use Rattle.connection.specs.Channel.{channel_at, valid_channel}
 use Rattle.connection.specs.Unit.{unit_of}
 use Rattle.connection.proofs.Back.{channel_number_lem, unit_back}
-use Rattle.storage.specs.Alloc.{alloc_at, parse_alloc}
+use Rattle.storage.specs.Alloc.{AllocAnswer, alloc_at, parse_alloc}
 use Rattle.storage.specs.Time.{timestamp}
-use Rattle.storage.specs.declared.AllocAnswer.{AllocAnswer}
 use Rattle.storage.specs.declared.AllocInfo.{AllocInfo}
 use Rattle.storage.specs.declared.Timestamp.{Timestamp}
 use Rattle.event_data.specs.EventData.{by_kind, event_data_of}
@@ -30,26 +29,23 @@ use Rattle.event_message.specs.Message.{direction_of, revision_of}
 use Rattle.event_message.specs.declared.EventDirection.{EventDirection}
 use Rattle.event_message.specs.declared.EventGenerator.{EventGenerator}
 use Rattle.event_message.specs.declared.EventMessageRevision.{EventMessageRevision}
-use Rattle.sel.specs.Entry.{channel_in, kept_at, no_oem, parse_entry, plain_record, refused_for, stamped_record, system_by, system_record, type_at}
+use Rattle.sel.specs.Entry.{EntryAnswer, accepted, kept_at, plain_record, stamped_record, system_by, type_at}
+use Rattle.sel.specs.Numbers.{refusal_of}
 use Rattle.sel.specs.declared.Entry.{Entry}
-use Rattle.sel.specs.declared.EntryAnswer.{EntryAnswer}
 use Rattle.sel.specs.declared.KeptBytes.{KeptBytes}
 use Rattle.sel.specs.declared.ParseEntryError.{ParseEntryError}
-use Rattle.sel.specs.declared.ParsedEntry.{ParsedEntry}
 use Rattle.sel.proofs.Parsed.{parsed_plain, parsed_stamped, parsed_system}
-use Rattle.get_entry.specs.GetEntry.{beside_next, parse_answer, record_part, with_next}
+use Rattle.get_entry.specs.GetEntry.{EntryInfoAnswer, parse_answer, record_part, with_next}
 use Rattle.get_entry.specs.declared.EntryInfo.{EntryInfo}
-use Rattle.get_entry.specs.declared.EntryInfoAnswer.{EntryInfoAnswer}
-use Rattle.get_entry.specs.declared.ParsedEntryInfo.{ParsedEntryInfo}
-use Rattle.sel_commands.specs.Clear.{parse_clear}
-use Rattle.sel_commands.specs.Info.{how_many, info_at, parse_info}
-use Rattle.sel_commands.specs.Reserve.{parse_reserve}
-use Rattle.sel_commands.specs.declared.clear.ClearAnswer.{ClearAnswer}
+use Rattle.sel_commands.specs.Clear.{ClearAnswer, parse_clear}
+use Rattle.sel_commands.specs.Info.{InfoAnswer, how_many, info_at, parse_info}
+use Rattle.sel_commands.specs.Reserve.{ReserveAnswer, parse_reserve}
 use Rattle.sel_commands.specs.declared.clear.ErasureProgress.{ErasureProgress}
 use Rattle.sel_commands.specs.declared.get_info.Info.{Info}
-use Rattle.sel_commands.specs.declared.get_info.InfoAnswer.{InfoAnswer}
+use Rattle.answers.specs.Answer.{Answer, number_of}
+use Rattle.answers.specs.Rows.{Row}
 use Rattle.answers.specs.declared.AnswerKind.{AnswerKind}
-use Rattle.sel_commands.specs.declared.reserve.ReserveAnswer.{ReserveAnswer}
+use Rattle.answers.proofs.Rows.{answer_rows}
 use Rattle.claims.specs.Fields.{AllocFields, ChannelIs, Decoded, EventDataFields, InfoFields, PlainFields, StampedFields, SystemFields, UnitIs}
 use Rattle.promises.specs.Promises.{Promised}
 
@@ -128,7 +124,7 @@ system_fields s =
       kept_data = (refl, refl, refl);
     }
 
-module _ (s : List ℕ) (r : ParsedEntry) (p : Promised AnswerKind.Entry r s) (long : 16 ≤ length s) where
+module _ (s : List ℕ) (r : EntryAnswer) (p : Promised AnswerKind.Entry r s) (long : 16 ≤ length s) where
   system_is : byte_at s 2 ≡ 0x02 → valid_channel (bits 7 4 (byte_at s 8)) ≡ true → r ≡ system_by (kept_at s) s
   system_is t v = p.decoded ∙ parsed_system valid_channel s long t v
 
@@ -145,17 +141,17 @@ module _ (s : List ℕ) (r : ParsedEntry) (p : Promised AnswerKind.Entry r s) (l
 six_first : (a b : List ℕ) → length a ≡ 6 → (take 6 (a ++ b) ≡ a) × (drop 6 (a ++ b) ≡ b)
 six_first a b e = (take_at a b 6 e, drop_at a b 6 e)
 
-stamped_fields : (s oem : List ℕ) → length (bytes_at s 10 6) ≡ 6 → oem ≡ bytes_at s 10 6 ++ replicate 7 0
-    → StampedFields s (record_id (le16_at s 0)) (type_at s) (timestamp (le32_at s 3)) (le24_at s 7) oem
-stamped_fields s oem six e =
+stamped_fields : (s : List ℕ) → length (bytes_at s 10 6) ≡ 6
+    → StampedFields s (record_id (le16_at s 0)) (type_at s) (timestamp (le32_at s 3)) (le24_at s 7) (bytes_at s 10 6 ++ replicate 7 0)
+stamped_fields s six =
     let parts = six_first (bytes_at s 10 6) (replicate 7 0) six in
     record {
       id_is = refl;
       type_is = refl;
       time_is = refl;
       maker_is = refl;
-      own = ap (take 6) e ∙ parts.0;
-      unused = ap (drop 6) e ∙ parts.1;
+      own = parts.0;
+      unused = parts.1;
     }
 
 -- the bits of the low four are the byte's
@@ -191,105 +187,55 @@ unfolding alloc_at
 alloc_fields s = record { units = refl; unit_size = refl; free = refl; largest = refl; maximum = refl }
 
 -- each kind
-system : (s : List ℕ) (r : ParsedEntry) → Promised AnswerKind.Entry r s
+system : (s : List ℕ) (r : EntryAnswer) → Promised AnswerKind.Entry r s
     → 16 ≤ length s → byte_at s 2 ≡ 0x02 → valid_channel (bits 7 4 (byte_at s 8)) ≡ true
     → (id : RecordId) × (time : Timestamp) × (generator : EventGenerator) × (revision : EventMessageRevision)
     × (sensor : ℕ) × (number : ℕ) × (direction : EventDirection) × (event : ℕ) × (event_data : EventData) × (kept : KeptBytes)
-    × (r.answer ≡ EntryAnswer.Accepted (Entry.System id time generator revision sensor number direction event event_data kept))
+    × (r ≡ accepted (Entry.System id time generator revision sensor number direction event event_data kept) (replicate 13 0))
     × SystemFields s id time generator revision sensor number direction event event_data kept
-    × (r.oem ≡ replicate 13 0)
 unfolding system_by
-system s r p l t v =
-    let e = system_is s r p l t v in
-    (_, _, _, _, _, _, _, _, _, _, ap (λ (x : ParsedEntry). x.answer) e, system_fields s, ap (λ (x : ParsedEntry). x.oem) e)
+system s r p l t v = (_, _, _, _, _, _, _, _, _, _, system_is s r p l t v, system_fields s)
 
--- what a parsed record is: accepted, or refused and without OEM bytes
-data Fate (p : ParsedEntry) : Type 0 where
-  taken : (entry : Entry) → p.answer ≡ EntryAnswer.Accepted entry → Fate p
-  bare : (why : ParseEntryError) → p ≡ refused_for why → Fate p
+-- an answer whose number is not 0 is a refusal, and has its row
+row_of : (kind : AnswerKind) (s : List ℕ) (r : Answer kind) → Promised kind r s → Row valid_channel kind s (number_of kind r)
+row_of kind s r p = ((rows_are (sym p.numbered) (answer_rows valid_channel kind s).rows).exactly (number_of kind r)).0 refl
 
-fate : (s : List ℕ) → Fate (parse_entry valid_channel s)
-unfolding parse_entry system_record system_by stamped_record plain_record
-fate s = by (ltb (length s) 16) (eqb (type_at s) 0x02) (valid_channel (channel_in s)) (within 0xC0 0xDF (type_at s)) (within 0xE0 0xFF (type_at s))
-  where
-    by : (short two valid stamped plain : Bool)
-        → Fate (if short then refused_for (ParseEntryError.NotEnoughData 16) else
-        if two then (if valid then system_by (kept_at s) s else refused_for (ParseEntryError.InvalidChannel (channel_in s))) else
-        if stamped then stamped_record s else
-        if plain then plain_record s else
-        refused_for (ParseEntryError.UnknownRecordType (type_at s)))
-    by true b v c d = bare _ refl
-    by false true true c d = taken _ refl
-    by false true false c d = bare _ refl
-    by false false v true d = taken _ refl
-    by false false v false true = taken _ refl
-    by false false v false false = bare _ refl
+refused_bytes_lem : (s : List ℕ) (r : EntryAnswer) → Promised AnswerKind.Entry r s → ((number_of AnswerKind.Entry r).number ≡ 0 → ⊥)
+    → (why : ParseEntryError) × (r ≡ Err why) × Row valid_channel AnswerKind.Entry s (refusal_of why)
+refused_bytes_lem s (Ok e) p n = absurd (n refl)
+refused_bytes_lem s (Err why) p n = (why, refl, row_of AnswerKind.Entry s (Err why) p)
 
-no_bytes : (p : ParsedEntry) (why : ParseEntryError) → Fate p → p.answer ≡ EntryAnswer.Refused why → p.oem ≡ replicate 13 0
-no_bytes p why (bare w e) f = ap (λ (x : ParsedEntry). x.oem) e
-no_bytes p why (taken entry e) f = let z : ◌≡◌ {A = ℕ} 0 1 = cc in absurd (omega arith)
+refused_answer_lem : (s : List ℕ) (r : EntryInfoAnswer) → Promised AnswerKind.GetEntry r s → ((number_of AnswerKind.GetEntry r).number ≡ 0 → ⊥)
+    → (why : ParseEntryError) × (r ≡ Err why) × Row valid_channel AnswerKind.GetEntry s (refusal_of why)
+refused_answer_lem s (Ok e) p n = absurd (n refl)
+refused_answer_lem s (Err why) p n = (why, refl, row_of AnswerKind.GetEntry s (Err why) p)
 
-refused_bytes_lem : (s : List ℕ) (r : ParsedEntry) (why : ParseEntryError) → Promised AnswerKind.Entry r s → r.answer ≡ EntryAnswer.Refused why
-    → r.oem ≡ replicate 13 0
-refused_bytes_lem s r why p = no_bytes r why (subst Fate (sym p.decoded) (fate s))
-
--- a refusal of the entry is handed on as it came
-as_it_came : (next : ℕ) (a : EntryAnswer) (why : ParseEntryError) → with_next next a ≡ EntryInfoAnswer.Refused why → a ≡ EntryAnswer.Refused why
-as_it_came next (EntryAnswer.Accepted entry) why e = let z : ◌≡◌ {A = ℕ} 0 1 = cc in absurd (omega arith)
-as_it_came next (EntryAnswer.Refused w) why e = cc
-
-refused_answer_lem : (s : List ℕ) (r : ParsedEntryInfo) (why : ParseEntryError) → Promised AnswerKind.GetEntry r s → r.answer ≡ EntryInfoAnswer.Refused why
-    → r.oem ≡ replicate 13 0
-unfolding parse_answer
-refused_answer_lem s r why p f = by (ltb (length s) 18) refl
-  where
-    by : (b : Bool) → ltb (length s) 18 ≡ b → r.oem ≡ replicate 13 0
-    by true t =
-        let e : r ≡ record { answer = EntryInfoAnswer.Refused (ParseEntryError.NotEnoughData 18); oem = no_oem } = p.decoded ∙ rw t in
-        ap (λ (x : ParsedEntryInfo). x.oem) e
-    by false t =
-        let q = parse_entry valid_channel (drop 2 s) in
-        let e : r ≡ beside_next (le16_at s 0) q = p.decoded ∙ rw t in
-        let g : with_next (le16_at s 0) q.answer ≡ EntryInfoAnswer.Refused why = sym (ap (λ (x : ParsedEntryInfo). x.answer) e) ∙ f in
-        ap (λ (x : ParsedEntryInfo). x.oem) e ∙ no_bytes q why (fate (drop 2 s)) (as_it_came (le16_at s 0) q.answer why g)
-
-stamped : (s : List ℕ) (r : ParsedEntry) → Promised AnswerKind.Entry r s → 16 ≤ length s → 0xC0 ≤ byte_at s 2 → byte_at s 2 ≤ 0xDF
-    → (id : RecordId) × (type : ℕ) × (time : Timestamp) × (maker : ℕ)
-    × (r.answer ≡ EntryAnswer.Accepted (Entry.OemTimestamped id type time maker)) × StampedFields s id type time maker r.oem
+stamped : (s : List ℕ) (r : EntryAnswer) → Promised AnswerKind.Entry r s → 16 ≤ length s → 0xC0 ≤ byte_at s 2 → byte_at s 2 ≤ 0xDF
+    → (id : RecordId) × (type : ℕ) × (time : Timestamp) × (maker : ℕ) × (oem : List ℕ)
+    × (r ≡ accepted (Entry.OemTimestamped id type time maker) oem) × StampedFields s id type time maker oem
 unfolding stamped_record
-stamped s r p l a b =
-    let e = stamped_is s r p l a b in (
-      record_id (le16_at s 0),
-      type_at s,
-      timestamp (le32_at s 3),
-      le24_at s 7,
-      ap (λ (x : ParsedEntry). x.answer) e,
-      stamped_fields s r.oem (six s r p l) (ap (λ (x : ParsedEntry). x.oem) e),
-    )
+stamped s r p l a b = (
+  record_id (le16_at s 0),
+  type_at s,
+  timestamp (le32_at s 3),
+  le24_at s 7,
+  bytes_at s 10 6 ++ replicate 7 0,
+  stamped_is s r p l a b,
+  stamped_fields s (six s r p l),
+)
 
-plain : (s : List ℕ) (r : ParsedEntry) → Promised AnswerKind.Entry r s → 16 ≤ length s → 0xE0 ≤ byte_at s 2 → byte_at s 2 ≤ 0xFF
-    → (id : RecordId) × (type : ℕ) × (r.answer ≡ EntryAnswer.Accepted (Entry.OemNotTimestamped id type)) × PlainFields s id type r.oem
+plain : (s : List ℕ) (r : EntryAnswer) → Promised AnswerKind.Entry r s → 16 ≤ length s → 0xE0 ≤ byte_at s 2 → byte_at s 2 ≤ 0xFF
+    → (id : RecordId) × (type : ℕ) × (oem : List ℕ) × (r ≡ accepted (Entry.OemNotTimestamped id type) oem) × PlainFields s id type oem
 unfolding plain_record
-plain s r p l a b =
-    let e = plain_is s r p l a b in (
-      record_id (le16_at s 0),
-      type_at s,
-      ap (λ (x : ParsedEntry). x.answer) e,
-      record { id_is = refl; type_is = refl; own = ap (λ (x : ParsedEntry). x.oem) e },
-    )
+plain s r p l a b = (record_id (le16_at s 0), type_at s, bytes_at s 3 13, plain_is s r p l a b, record { id_is = refl; type_is = refl; own = refl })
 
-module _ (s : List ℕ) (r : ParsedEntryInfo) (q : ParsedEntry) (entry : Entry) where
-  get_entry_lem : Promised AnswerKind.GetEntry r s → Promised AnswerKind.Entry q (drop 2 s) → 18 ≤ length s → q.answer ≡ EntryAnswer.Accepted entry
-      → (i : EntryInfo) × (r.answer ≡ EntryInfoAnswer.Accepted i) × (i.next_entry.0 ≡ le16_at s 0) × (i.entry ≡ entry) × (r.oem ≡ q.oem)
+module _ (s : List ℕ) (r : EntryInfoAnswer) (q : EntryAnswer) (entry : Entry) (oem : List ℕ) where
+  get_entry_lem : Promised AnswerKind.GetEntry r s → Promised AnswerKind.Entry q (drop 2 s) → 18 ≤ length s → q ≡ accepted entry oem
+      → (i : EntryInfo) × (r ≡ Ok (record { info = i; oem = oem })) × (i.next_entry.0 ≡ le16_at s 0) × (i.entry ≡ entry)
   unfolding parse_answer
   get_entry_lem p g l a =
-      let e : r ≡ beside_next (le16_at s 0) q = p.decoded ∙ rw (le-ltb (length s) 18 l, sym g.decoded) in (
-        record { next_entry = record_id (le16_at s 0); entry = entry },
-        ap (λ (x : ParsedEntryInfo). x.answer) e ∙ ap (with_next (le16_at s 0)) a,
-        refl,
-        refl,
-        ap (λ (x : ParsedEntryInfo). x.oem) e,
-      )
+      let e : r ≡ with_next (le16_at s 0) q = p.decoded ∙ rw (le-ltb (length s) 18 l, sym g.decoded) in
+      (record { next_entry = record_id (le16_at s 0); entry = entry }, e ∙ ap (with_next (le16_at s 0)) a, refl, refl)
 
 part : (s : List ℕ) → 18 ≤ length s → record_part s ≡ bytes_at s 2 16
 unfolding record_part
@@ -299,25 +245,25 @@ no_part_lem : (s : List ℕ) → length s < 18 → record_part s ≡ []
 unfolding record_part
 no_part_lem s l = rw (lt-ltb (length s) 18 l)
 
-info : (s : List ℕ) (r : InfoAnswer) → Promised AnswerKind.Info r s → length s ≡ 14 → (i : Info) × (r ≡ InfoAnswer.Accepted i) × InfoFields s i
+info : (s : List ℕ) (r : InfoAnswer) → Promised AnswerKind.Info r s → length s ≡ 14 → (i : Info) × (r ≡ Ok i) × InfoFields s i
 unfolding parse_info
 info s r p l = (info_at s, p.decoded ∙ rw (le-ltb (length s) 14 (omega arith), le-ltb 14 (length s) (omega arith)), info_fields_lem s)
 
-alloc : (s : List ℕ) (r : AllocAnswer) → Promised AnswerKind.Allocation r s → 9 ≤ length s → (i : AllocInfo) × (r ≡ AllocAnswer.Accepted i) × AllocFields s i
+alloc : (s : List ℕ) (r : AllocAnswer) → Promised AnswerKind.Allocation r s → 9 ≤ length s → (i : AllocInfo) × (r ≡ Ok i) × AllocFields s i
 unfolding parse_alloc
 alloc s r p l = (alloc_at s, p.decoded ∙ rw (le-ltb (length s) 9 l), alloc_fields s)
 
 reserved : (s : List ℕ) (r : ReserveAnswer) → Promised AnswerKind.Reserve r s → 2 ≤ length s → (le16_at s 0 ≡ 0 → ⊥)
-    → (id : ReservationId) × (r ≡ ReserveAnswer.Accepted id) × (id.0 ≡ le16_at s 0)
+    → (id : ReservationId) × (r ≡ Ok id) × (id.0 ≡ le16_at s 0)
 unfolding parse_reserve
 reserved s r p l f = (reservation_id (le16_at s 0), p.decoded ∙ simp (le-ltb (length s) 2 l, ne_eqb (le16_at s 0) 0 f), refl)
 
 module _ (s : List ℕ) (r : ClearAnswer) (p : Promised AnswerKind.Clear r s) (l : 1 ≤ length s) where
-  completed : bits 3 0 (byte_at s 0) ≡ 1 → r ≡ ClearAnswer.Accepted ErasureProgress.Completed
+  completed : bits 3 0 (byte_at s 0) ≡ 1 → r ≡ Ok ErasureProgress.Completed
   unfolding parse_clear
   completed b = p.decoded ∙ simp (le-ltb (length s) 1 l, b)
 
-  in_progress_lem : (bits 3 0 (byte_at s 0) ≡ 1 → ⊥) → r ≡ ClearAnswer.Accepted ErasureProgress.InProgress
+  in_progress_lem : (bits 3 0 (byte_at s 0) ≡ 1 → ⊥) → r ≡ Ok ErasureProgress.InProgress
   unfolding parse_clear
   in_progress_lem f = p.decoded ∙ simp (le-ltb (length s) 1 l, ne_eqb (bits 3 0 (byte_at s 0)) 1 f)
 

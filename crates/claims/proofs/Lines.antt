@@ -1,4 +1,5 @@
 -- The lines of an input that lead: they are good, the one after them is not, and there are no more. Assumes nothing.
+use Rattle.std.specs.Prelude.{Result}
 use Prim.Native.Nat.{ℕ, zero, suc, ◌≤◌, ◌<◌}
 use mathlib.Core.Path.{◌≡◌, refl, sym, ap, ◌∙◌}
 use mathlib.Core.Bool.{Bool, true, false}
@@ -12,7 +13,7 @@ use Rattle.field.specs.Handed.{Answers, Handed, handed}
 use Rattle.field.proofs.Choices.{clash}
 use Rattle.slot_line.specs.Input.{input_hands, judge_input, leading, line_form, lines, number_of}
 use Rattle.slot_line.specs.Line.{fits}
-use Rattle.slot_line.specs.declared.Judged.{Judged}
+use Rattle.slot_line.specs.declared.InputError.{InputError}
 use Rattle.slot_line.proofs.Forms.{unlike}
 use Rattle.claims.specs.Demand1.{AllGood, FirstBad, OneTooMany}
 
@@ -102,8 +103,8 @@ module _ (input : List ℕ) where
   number e = ap (λ (x : Handed). x.number) e
 
   said_bad : (k : ℕ) → Fate → input_hands input ≡ handed 6 (suc k ∷ []) → FirstBad input k
-  said_bad k (many h e) p = absurd (let z : ◌≡◌ {A = ℕ} 5 6 = sym (number e) ∙ number p in omega arith)
-  said_bad k (fine h l e) p = absurd (let z : ◌≡◌ {A = ℕ} 0 6 = sym (number e) ∙ number p in omega arith)
+  said_bad k (many h e) p = cc (number e, number p)
+  said_bad k (fine h l e) p = cc (number e, number p)
   said_bad k (bad h m e) p =
       let s : suc (lead input) ≡ suc k = ap (λ (x : Handed). get_or x.carries 0 0) (sym e ∙ p) in
       let same : lead input ≡ k = omega arith in
@@ -121,12 +122,12 @@ module _ (input : List ℕ) where
 
   said_many : Fate → input_hands input ≡ handed 5 [] → OneTooMany input
   said_many (many h e) p = (omega (arith, within (lines input)), λ j i. leads (lines input) j (omega arith))
-  said_many (bad h m e) p = absurd (let z : ◌≡◌ {A = ℕ} 6 5 = sym (number e) ∙ number p in omega arith)
-  said_many (fine h l e) p = absurd (let z : ◌≡◌ {A = ℕ} 0 5 = sym (number e) ∙ number p in omega arith)
+  said_many (bad h m e) p = cc (number e, number p)
+  said_many (fine h l e) p = cc (number e, number p)
 
   said_good : (k : ℕ) → Fate → input_hands input ≡ handed 0 (k ∷ []) → AllGood input k
-  said_good k (many h e) p = absurd (let z : ◌≡◌ {A = ℕ} 5 0 = sym (number e) ∙ number p in omega arith)
-  said_good k (bad h m e) p = absurd (let z : ◌≡◌ {A = ℕ} 6 0 = sym (number e) ∙ number p in omega arith)
+  said_good k (many h e) p = cc (number e, number p)
+  said_good k (bad h m e) p = cc (number e, number p)
   said_good k (fine h l e) p =
       let same : length (lines input) ≡ k = ap (λ (x : Handed). get_or x.carries 0 0) (sym e ∙ p) in
       (omega (arith, within (lines input)), same, λ j i. leads (lines input) j (omega arith))
@@ -138,24 +139,24 @@ module _ (input : List ℕ) where
       hands_good (omega (arith, p.0, p.1)) (omega (arith, p.1)) ∙ ap (λ n. handed 0 (n ∷ [])) p.1
 
   carries : Fate → (input_hands input).number ≡ 6 → (k : ℕ) × (input_hands input ≡ handed 6 (suc k ∷ []))
-  carries (many h e) p = absurd (let z : ◌≡◌ {A = ℕ} 5 6 = sym (number e) ∙ p in omega arith)
-  carries (fine h l e) p = absurd (let z : ◌≡◌ {A = ℕ} 0 6 = sym (number e) ∙ p in omega arith)
+  carries (many h e) p = cc
+  carries (fine h l e) p = cc
   carries (bad h m e) p = (lead input, e)
 
-  pub good_lines_lem : (r : Judged) (k : ℕ) → Answers r (judge_input input) number_of (input_hands input)
+  pub good_lines_lem : (r : Result ℕ InputError) (k : ℕ) → Answers r (judge_input input) number_of (input_hands input)
       → (number_of r ≡ handed 0 (k ∷ [])) ↔ AllGood input k
   good_lines_lem r k a = (λ p. said_good k fate (sym a.numbered ∙ p), λ p. a.numbered ∙ is_good k p)
 
-  pub bad_carries_lem : (r : Judged) → Answers r (judge_input input) number_of (input_hands input)
+  pub bad_carries_lem : (r : Result ℕ InputError) → Answers r (judge_input input) number_of (input_hands input)
       → (number_of r).number ≡ 6 → (k : ℕ) × (number_of r ≡ handed 6 (suc k ∷ [])) × FirstBad input k
   bad_carries_lem r a p =
       let c = carries fate (sym (number a.numbered) ∙ p) in
       (c.0, a.numbered ∙ c.1, said_bad c.0 fate c.1)
 
-  pub bad_line_lem : (r : Judged) (k : ℕ) → Answers r (judge_input input) number_of (input_hands input)
+  pub bad_line_lem : (r : Result ℕ InputError) (k : ℕ) → Answers r (judge_input input) number_of (input_hands input)
       → (number_of r ≡ handed 6 (suc k ∷ [])) ↔ FirstBad input k
   bad_line_lem r k a = (λ p. said_bad k fate (sym a.numbered ∙ p), λ p. a.numbered ∙ is_bad k p)
 
-  pub too_many_lem : (r : Judged) → Answers r (judge_input input) number_of (input_hands input)
+  pub too_many_lem : (r : Result ℕ InputError) → Answers r (judge_input input) number_of (input_hands input)
       → (number_of r ≡ handed 5 []) ↔ OneTooMany input
   too_many_lem r a = (λ p. said_many fate (sym a.numbered ∙ p), λ p. a.numbered ∙ hands_many (reach (lines input) 3001 p.1))

@@ -1,5 +1,5 @@
 -- Demand 3: the walk over a capture, as the crate capture states it. Assumes nothing.
-use Rattle.std.specs.Prelude.{ℕ, ◌+◌, ◌*◌, ◌≤◌, ◌<◌, ◌≡◌, List, ◌++◌, length}
+use Rattle.std.specs.Prelude.{ℕ, ◌+◌, ◌*◌, ◌≤◌, ◌<◌, ◌≡◌, List, ◌++◌, length, Result}
 use Rattle.field.specs.Bits.{bytes_at, le16_at}
 use Rattle.connection.specs.Channel.{valid_channel}
 use Rattle.capture.specs.Asking.{Asking}
@@ -9,6 +9,7 @@ use Rattle.capture.specs.Slots.{answer_in, asked_of, count}
 use Rattle.capture.specs.Unseen.{LaterSlotsDoNotMatter, RecordsDoNotMatter}
 use Rattle.capture.specs.Walk.{list_after, walk_of}
 use Rattle.capture.specs.Walked.{Walked}
+use Rattle.capture.specs.declared.CaptureError.{CaptureError}
 use Rattle.capture.specs.declared.Verdict.{Verdict}
 use Rattle.claims.specs.SlotAnswer.{SlotAnswer}
 
@@ -24,7 +25,8 @@ pub record Demand3 : Type 0 where
   pub slots : (s : List ℕ) (n : ℕ) → length s ≡ 20 * n → count s ≡ n
   pub slot : (s : List ℕ) (i : ℕ) → Slot s i
   -- what the walk answers and leaves is what the others speak of
-  pub walked : (s : List ℕ) (b : ℕ) (old left : List ℕ) (r : Verdict) → Walked s b old r left → (r ≡ walk_of s b (length old)) × (left ≡ list_after s b old)
+  pub walked : (s : List ℕ) (b : ℕ) (old left : List ℕ) (r : Result Verdict CaptureError) → Walked s b old r left
+      → (r ≡ walk_of s b (length old)) × (left ≡ list_after s b old)
   -- which id is asked when, and which slot is found
   pub asks : (s : List ℕ) → Asking s
   -- ended, missing, spent, circle, each exactly when; n + 1 lookups settle it; a larger budget changes no verdict but "spent"

@@ -7,18 +7,15 @@ use Rattle.field.specs.Rows.{Rows}
 use Rattle.ids.specs.declared.RecordId.{RecordId}
 use Rattle.ids.specs.declared.ReservationId.{ReservationId}
 use Rattle.sel.specs.Entry.{parse_entry}
-use Rattle.get_entry.specs.GetEntry.{beside_next, entry_payload, entry_request, parse_answer}
-use Rattle.partial.specs.Join.{Takes, held, number_of as join_number}
+use Rattle.get_entry.specs.GetEntry.{entry_payload, entry_request, parse_answer, with_next}
+use Rattle.partial.specs.Join.{JoinAnswer, Takes, held, number_of as join_number}
 use Rattle.partial.specs.Joined.{Between, Joins, JoinsOnly, ReadOn, answers_of, empty, hand_in}
-use Rattle.partial.specs.Reads.{Lists, number_of as reads_number, pairs, reads_of}
+use Rattle.partial.specs.Reads.{Lists, ReadsAnswer, number_of as reads_number, pairs, reads_of}
 use Rattle.partial.specs.Refusals.{JoinRow, PartRow, ReadsRow}
-use Rattle.partial.specs.Request.{Requests, number_of as part_number}
+use Rattle.partial.specs.Request.{PartAnswer, Requests, number_of as part_number}
 use Rattle.partial.specs.RightReads.{RightReads}
 use Rattle.partial.specs.declared.GetEntryPart.{GetEntryPart}
-use Rattle.partial.specs.declared.Joined.{Joined}
 use Rattle.partial.specs.declared.Joining.{Joining}
-use Rattle.partial.specs.declared.PartAnswer.{PartAnswer}
-use Rattle.partial.specs.declared.ReadsAnswer.{ReadsAnswer}
 use Rattle.abi.specs.PartsSay.{PartsSay}
 
 pub record FewBytes : Type 0 where
@@ -39,9 +36,10 @@ pub record FewBytes : Type 0 where
       → left ≡ pairs (reads_of m) ++ drop (length (pairs (reads_of m))) out
   pub unlisted : (m : ℕ) (out left : List ℕ) (r : ReadsAnswer) → Lists m out r left → ((reads_number r).number ≡ 0 → ⊥) → left ≡ out
   -- an answer handed in: 13, 16, 1 with the length needed or 8, 15 and 4 exactly when their rows say, in this order, and else taken
-  pub answer : (j : Joining) (s old left : List ℕ) (r : Joined) → Takes j s old r left → Rows (join_number r.answer) (JoinRow (held j old) s)
+  pub answer : (j k : Joining) (s old left : List ℕ) (r : JoinAnswer) → Takes (held j old) s r (held k left) → Rows (join_number r) (JoinRow (held j old) s)
   -- a refused answer leaves the joining as it was, and the lent bytes
-  pub refused : (j : Joining) (s old left : List ℕ) (r : Joined) → Takes j s old r left → ((join_number r.answer).number ≡ 0 → ⊥) → (r.state ≡ j) × (left ≡ old)
+  pub refused : (j k : Joining) (s old left : List ℕ) (r : JoinAnswer) → Takes (held j old) s r (held k left)
+      → ((join_number r).number ≡ 0 → ⊥) → (k ≡ j) × (left ≡ old)
   -- for every record, next id and m, the answers to the listed reads join to that record and next id, also with refused answers in between
   pub joins : (m : ℕ) → 1 ≤ m → (next : ℕ) → next < 65536 → (bytes : List ℕ) → length bytes ≡ entry_bytes → (old : List ℕ) → entry_bytes ≤ length old
       → Joins m next bytes old
@@ -52,6 +50,6 @@ pub record FewBytes : Type 0 where
   pub read : (valid : ℕ → Bool) (m : ℕ) → 1 ≤ m → (next : ℕ) → next < 65536 → (bytes : List ℕ) → length bytes ≡ entry_bytes → (old : List ℕ)
       → entry_bytes ≤ length old → (handed : List (List ℕ)) → Between (empty m old) (answers_of bytes next m) handed
       → parse_answer valid (le_bytes 2 (hand_in (empty m old) handed).state.next ++ take entry_bytes (hand_in (empty m old) handed).bytes)
-      ≡ beside_next next (parse_entry valid bytes)
+      ≡ with_next next (parse_entry valid bytes)
   -- and the same of the functions for C
   pub says : PartsSay

@@ -1,6 +1,7 @@
 -- Find one slot fast, sentence by sentence. Assumes nothing.
-use Rattle.std.specs.Prelude.{ℕ, ◌≡◌, Bool, true, ◌↔◌, List}
+use Rattle.std.specs.Prelude.{ℕ, ◌≡◌, Bool, true, ◌↔◌, List, Result}
 use Rattle.capture.specs.Walked.{Walked}
+use Rattle.capture.specs.declared.CaptureError.{CaptureError}
 use Rattle.capture.specs.declared.Verdict.{Verdict}
 use Rattle.index.specs.Check.{Checks}
 use Rattle.index.specs.Checked.{Checked}
@@ -8,9 +9,9 @@ use Rattle.index.specs.Find.{find_indexed}
 use Rattle.index.specs.Index.{RightIndex}
 use Rattle.index.specs.Lookup.{Finds}
 use Rattle.index.specs.OneIndex.{OneIndex}
-use Rattle.index.specs.Refusals.{IndexedWalk}
+use Rattle.index.specs.Refusals.{IndexedWalk, wrapped}
 use Rattle.index.specs.Walk.{WalkedIndexed}
-use Rattle.index.specs.declared.IndexedVerdict.{IndexedVerdict}
+use Rattle.index.specs.declared.IndexError.{IndexError}
 use Rattle.index_make.specs.Made.{Adds, Makes}
 use Rattle.abi.specs.IndexSays.{IndexSays}
 
@@ -26,8 +27,8 @@ pub record FindFast : Type 0 where
   -- the walk checks once and then uses it, with verdicts as before, and 10 after 5 and before 4
   pub walk : (s x : List ℕ) (b : ℕ) (old : List ℕ) → IndexedWalk s x b old
   -- with the right index it keeps the promise of the walk without one, from which all of demand 3 starts
-  pub walked : (s x : List ℕ) (b : ℕ) (old left : List ℕ) (r : IndexedVerdict) → RightIndex s x → WalkedIndexed s x b old r left
-      → (v : Verdict) × (r ≡ IndexedVerdict.Walked v) × Walked s b old v left
+  pub walked : (s x : List ℕ) (b : ℕ) (old left : List ℕ) (r : Result Verdict IndexError) → RightIndex s x → WalkedIndexed s x b old r left
+      → (v : Result Verdict CaptureError) × (r ≡ wrapped v) × Walked s b old v left
   -- an index is made, and kept while slots are added at the end
   pub makes : (s old was : List ℕ) → Makes s old was
   pub adds : (s x : List ℕ) → Adds s x

@@ -13,8 +13,7 @@ use Rattle.sel.specs.declared.SystemEvent.{SystemEvent}
 use Rattle.record_writer.specs.Layout.{made_of}
 use Rattle.record_writer.specs.Trips.{FromFields, Wrote, Zeros}
 use Rattle.record_writer.specs.Turned.{Seven, Sound}
-use Rattle.record_writer.specs.Written.{WritesEntry, number_of}
-use Rattle.record_writer.specs.declared.WriteAnswer.{WriteAnswer}
+use Rattle.record_writer.specs.Written.{WriteAnswer, WritesEntry, number_of}
 use Rattle.flat_form.specs.declared.SelAnswer.{SelAnswer}
 use Rattle.flat_writer.specs.KeptTrips.{KeptAnswers, KeptTrips}
 

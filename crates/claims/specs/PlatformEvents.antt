@@ -4,9 +4,8 @@ use Rattle.field.specs.Bits.{bytes_at}
 use Rattle.platform_event.specs.Message.{message_in}
 use Rattle.platform_event.specs.Refusals.{ToMessage, ToRecord}
 use Rattle.platform_event.specs.Trips.{MessageAlone, MessageBack, RecordBack}
+use Rattle.platform_event.specs.Ways.{MessageAnswer, RecordAnswer}
 use Rattle.platform_event.specs.declared.Beside.{Beside}
-use Rattle.platform_event.specs.declared.MessageAnswer.{MessageAnswer}
-use Rattle.platform_event.specs.declared.RecordAnswer.{RecordAnswer}
 use Rattle.abi.specs.EventsSay.{EventsSay}
 
 pub record PlatformEvents : Type 0 where

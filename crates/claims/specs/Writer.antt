@@ -3,7 +3,7 @@ use Rattle.std.specs.Prelude.{ℕ, List}
 use Rattle.sel.specs.declared.Entry.{Entry}
 use Rattle.record_writer.specs.Trips.{RoundTrips}
 use Rattle.record_writer.specs.Turned.{TurnedAway}
-use Rattle.record_writer.specs.declared.WriteAnswer.{WriteAnswer}
+use Rattle.record_writer.specs.Written.{WriteAnswer}
 use Rattle.flat_form.specs.declared.SelAnswer.{SelAnswer}
 use Rattle.flat_writer.specs.Trips.{FlatAnswers, FlatTrips}
 

@@ -26,7 +26,7 @@ pub(crate) fn ask(letter: u8, data: &[u8]) {
     }
     say(b"0");
     let flat = up_to(&out, answer.value);
-    if flat.len() == 0 {
+    if flat.is_empty() {
         return;
     }
     say(b" ");
@@ -46,10 +46,7 @@ fn room_in(letter: u8, data: &[u8]) -> usize
         b'P' | b'O' => le16_at(data, 0) as usize,
         _ => ROOM,
     };
-    if room < ROOM {
-        return room;
-    }
-    ROOM
+    room.min(ROOM)
 }
 
 fn answer_to(letter: u8, data: &[u8], out: &mut [u8]) -> SelAnswer {

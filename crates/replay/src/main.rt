@@ -2,6 +2,8 @@
 // A question is a letter, a space and digits; most letters are asked of `flat`, which C and Rust call too.
 #![tactic(auto)]
 
+ghost use Rattle.std.specs.Prelude.{◌<◌, IfSome};
+
 mod events;
 mod flats;
 mod indexes;
@@ -19,53 +21,36 @@ const LINE: usize = 132403;
 // The place of a question's digits.
 const DIGITS: usize = 2;
 
-fn digit(c: u8) -> u8 {
+fn digit(c: u8) -> Option<u8>
+    ensures { IfSome result (λ d. d < 16) }
+{
     match c {
-        b'0'..=b'9' => c - b'0',
-        b'A'..=b'F' => c - b'A' + 10,
-        _ => 16,
+        b'0'..=b'9' => Some(c - b'0'),
+        b'A'..=b'F' => Some(c - b'A' + 10),
+        _ => None,
     }
 }
 
-// Puts the bytes that a line's digits spell at its start, where none of them is read any more; false where they spell none.
-fn decode(line: &mut [u8], filled: usize) -> bool {
+// Puts the bytes that a line's digits spell at its start, where none of them is read any more, and answers how many; none where they spell none.
+fn decode(line: &mut [u8], filled: usize) -> Option<usize> {
     if line.len() <= filled {
-        return false;
+        return None;
     }
-    let digits = from_place(up_to(line, filled), DIGITS).len();
+    let digits = line.get(DIGITS..filled)?.len();
     if digits % 2 != 0 {
-        return false;
+        return None;
     }
-    let mut i = 0;
-    while i < digits / 2 {
-        let high = digit(field::byte_at(from_place(line, DIGITS), 2 * i));
-        let low = digit(field::byte_at(from_place(line, DIGITS), 2 * i + 1));
-        if 16 <= high {
-            return false;
-        }
-        if 16 <= low {
-            return false;
-        }
-        put(line, i, 16 * high + low);
-        i += 1;
+    for i in 0..digits / 2 {
+        let high = digit(line[DIGITS + 2 * i])?;
+        let low = digit(line[DIGITS + 2 * i + 1])?;
+        line[i] = 16 * high + low;
     }
-    true
+    Some(digits / 2)
 }
 
-// Puts a byte where there is room, and answers the place after it.
-fn put(out: &mut [u8], at: usize, b: u8) -> usize {
-    if at < out.len() {
-        out[at] = b;
-        return at + 1;
-    }
-    at
-}
-
+// What is behind a place; nothing where that is past the end.
 pub(crate) fn from_place(line: &[u8], at: usize) -> &[u8] {
-    if at <= line.len() {
-        return &line[at..];
-    }
-    &line[..0]
+    line.get(at..).unwrap_or_default()
 }
 
 fn answer_to(letter: u8, data: &[u8]) {
@@ -87,38 +72,34 @@ fn answer_line(line: &mut [u8], filled: usize) {
         say(b"?");
         return;
     }
-    if decode(line, filled) {
-        let n = from_place(up_to(line, filled), DIGITS).len() / 2;
-        answer_to(letter, up_to(line, n));
-        return;
+    match decode(line, filled) {
+        Some(n) => answer_to(letter, up_to(line, n)),
+        None => say(b"?"),
     }
-    say(b"?");
 }
 
-// Takes bytes of the input: a newline has the line before it answered. Hands back how much of a line there is then.
+// Takes bytes of the input: a newline has the line before it answered, and what a full line has no room for is dropped. Hands back how much of a line
+// there is then.
 fn take_all(chunk: &[u8], line: &mut [u8], filled: usize) -> usize {
     let mut filled = filled;
-    let mut i = 0;
-    while i < chunk.len() {
-        let c = chunk[i];
-        i += 1;
-        if c != b'\n' {
-            filled = put(line, filled, c);
-            continue;
+    for c in chunk {
+        if *c == b'\n' {
+            answer_line(line, filled);
+            say(b"\n");
+            filled = 0;
+        } else if let Some(place) = line.get_mut(filled) {
+            *place = *c;
+            filled += 1;
         }
-        answer_line(line, filled);
-        say(b"\n");
-        filled = 0;
     }
     filled
 }
 
 // A line that the end of the input cuts off is no question, and neither is one at which reading fails. Nothing says that the input ends, so the turns
-// are counted down from a number that no run uses up.
+// are counted, up to a number that no run uses up.
 fn replay(stdin: &mut Stdin, line: &mut [u8]) {
     let mut filled = 0;
-    let mut turns = u64::MAX;
-    while 0 < turns {
+    for _ in 0..u64::MAX {
         let mut chunk = io::large_buffer();
         let Ok(n) = stdin.read(&mut chunk) else {
             say(b"?\n");
@@ -131,7 +112,6 @@ fn replay(stdin: &mut Stdin, line: &mut [u8]) {
             return;
         }
         filled = take_all(&chunk[..n], line, filled);
-        turns -= 1;
     }
 }
 

@@ -1,6 +1,7 @@
 // The questions R, Q and J: the reads of a record, the request for a part of it, and the answers to its reads, joined.
-use crate::from_place;
-use crate::say::{say, say_bytes, say_le16, say_refusal, up_to};
+ghost use Rattle.std.specs.Prelude.{◌<◌, IfSome, length};
+
+use crate::say::{say, say_bytes, say_le16, say_refusal};
 use field::lengths::ENTRY;
 use field::numbers::NO_BYTES;
 use field::{byte_at, le16_at};
@@ -28,56 +29,55 @@ pub(crate) fn request(data: &[u8], out: &mut [u8]) -> SelAnswer {
     )
 }
 
-// Whether the answers from a place on, each its length and its bytes, are whole.
-fn whole(data: &[u8], at: usize) -> bool {
-    let mut at = at;
-    while at < data.len() {
-        let n = byte_at(data, at) as usize;
-        if data.len() - at - 1 < n {
-            return false;
-        }
-        at += 1 + n;
+// The first of some answers, each its length and its bytes, and those behind it; none where there is no answer, or the first is cut off.
+fn split_answer(answers: &[u8]) -> Option<(&[u8], &[u8])>
+    ensures { IfSome result (λ p. length p.1.now < length answers.now) }
+{
+    let (n, rest) = answers.split_first()?;
+    rest.split_at_checked(*n as usize)
+}
+
+// Whether none of the answers is cut off.
+fn whole(answers: &[u8]) -> bool {
+    let mut rest = answers;
+    while let Some((_, behind)) = split_answer(rest) {
+        rest = behind;
     }
-    true
+    rest.is_empty()
 }
 
 pub(crate) fn join(data: &[u8]) {
-    if data.len() == 0 {
+    let Some((m, answers)) = data.split_first() else {
         say(b"?");
         return;
-    }
-    let m = byte_at(data, 0);
-    if m == 0 {
+    };
+    if *m == 0 {
         say_refusal(NO_BYTES, 0);
         return;
     }
-    if !whole(data, 1) {
+    if !whole(answers) {
         say(b"?");
         return;
     }
     say(b"0");
-    if 1 < data.len() {
+    if !answers.is_empty() {
         say(b" ");
     }
-    hand_in(m, data);
+    hand_in(*m, answers);
 }
 
 // Says the number of each answer, and then the next id and the record, where all reads have their answer.
-fn hand_in(m: u8, data: &[u8]) {
+fn hand_in(m: u8, answers: &[u8]) {
     let mut record = [0u8; ENTRY];
     let mut state = Joining::new(m);
-    let mut at = 1;
-    while at < data.len() {
-        let n = byte_at(data, at) as usize;
-        if data.len() - at - 1 < n {
-            return;
-        }
-        let joined = state.take(up_to(from_place(data, at + 1), n), &mut record);
-        let answer = joined.answer;
-        let number = [answer.number()];
-        say_bytes(&number);
-        state = joined.state;
-        at += 1 + n;
+    let mut rest = answers;
+    while let Some((first, behind)) = split_answer(rest) {
+        let number = match state.take(first, &mut record) {
+            Ok(()) => 0,
+            Err(why) => why.number(),
+        };
+        say_bytes(&[number]);
+        rest = behind;
     }
     if state.got == ENTRY {
         say_le16(state.next);

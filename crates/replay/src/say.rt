@@ -7,18 +7,14 @@ pub(crate) fn say(s: &[u8]) {
     io::write_all(STDOUT, s);
 }
 
-// The first n bytes; all of them where there are fewer.
-pub(crate) fn up_to(s: &[u8], n: usize) -> &[u8] {
-    if n <= s.len() {
-        return &s[..n];
-    }
-    s
+// The first n; all of them where there are fewer.
+pub(crate) fn up_to<T>(s: &[T], n: usize) -> &[T] {
+    s.get(..n).unwrap_or(s)
 }
 
 // A number of the flat form, the low byte first.
 pub(crate) fn say_le16(v: u16) {
-    let pair = [(v % 256) as u8, (v / 256) as u8];
-    say_bytes(&pair);
+    say_bytes(&v.to_le_bytes());
 }
 
 // More than the longest flat form has that is no text, 24 bytes.
@@ -35,19 +31,17 @@ pub(crate) fn say_bytes(s: &[u8]) {
 
 // A refusal: with the length needed, in four digits, or with a type or channel, in two; any other number alone.
 pub(crate) fn say_refusal(number: u32, value: usize) {
-    let mut digits = [0u8; 10];
-    let n = text::put_decimal(number, &mut digits, 0);
-    say(up_to(&digits, n));
+    io::print_decimal(STDOUT, number as u64);
     match number {
         TOO_SHORT | NO_ROOM => {
             say(b" ");
-            let needed = [(value / 256 % 256) as u8, (value % 256) as u8];
-            say_bytes(&needed);
+            let [low, high, ..] = value.to_le_bytes();
+            say_bytes(&[high, low]);
         }
         UNKNOWN_TYPE | INVALID_CHANNEL => {
             say(b" ");
-            let carried = [(value % 256) as u8];
-            say_bytes(&carried);
+            let [carried, ..] = value.to_le_bytes();
+            say_bytes(&[carried]);
         }
         _ => {}
     }

@@ -1,20 +1,14 @@
 // The kind w: a budget, a number of places lent, and the slots to walk over.
 use crate::say::{say, say_bytes, say_le16, say_refusal};
-use capture::Verdict;
+use capture::{CaptureError, Verdict};
 use field::numbers::{BAD_CAPTURE, NO_ROOM};
 use field::{le16_at, le32_at};
 
 pub(crate) const MOST_PLACES: usize = 3001;
 
-// The first n places of a list; all of them where there are fewer.
-pub(crate) fn say_places(list: &[u16], n: usize) {
-    let mut i = 0;
-    while i < n {
-        if list.len() <= i {
-            return;
-        }
-        say_le16(list[i]);
-        i += 1;
+pub(crate) fn say_places(list: &[u16]) {
+    for place in list {
+        say_le16(*place);
     }
 }
 
@@ -24,7 +18,7 @@ fn say_walk(verdict: u8, ask: u16, read: usize, list: &[u16]) {
     say_bytes(&verdict);
     say_le16(ask);
     say_le16((read % 65536) as u16);
-    say_places(list, list.len());
+    say_places(list);
 }
 
 pub(crate) fn say_verdict(verdict: Verdict, list: &[u16]) {
@@ -33,14 +27,21 @@ pub(crate) fn say_verdict(verdict: Verdict, list: &[u16]) {
         Verdict::Missing { ask, read } => say_walk(1, ask.value(), read, list),
         Verdict::Spent { ask, read } => say_walk(2, ask.value(), read, list),
         Verdict::Circle { read } => say_walk(3, 0, read, list),
-        Verdict::NoRoom(n) => say_refusal(NO_ROOM, n),
-        Verdict::BadCapture => say_refusal(BAD_CAPTURE, 0),
+    }
+}
+
+pub(crate) fn say_error(why: CaptureError) {
+    match why {
+        CaptureError::NoRoom(n) => say_refusal(NO_ROOM, n),
+        CaptureError::BadCapture => say_refusal(BAD_CAPTURE, 0),
     }
 }
 
 fn walk_into(slots: &[u8], budget: usize, list: &mut [u16]) {
-    let verdict = capture::walk(slots, budget, list);
-    say_verdict(verdict, list);
+    match capture::walk(slots, budget, list) {
+        Ok(verdict) => say_verdict(verdict, list),
+        Err(why) => say_error(why),
+    }
 }
 
 pub(crate) fn walk(data: &[u8]) {

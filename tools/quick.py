@@ -12,7 +12,7 @@ from signatures import signature_faults
 # A crate whose functions are those of another under the same contracts, which tools/signatures.py sees: what the page states of the one it states of both.
 AGAIN = {'abi_c': 'abi'}
 # What the type of data is made of, beside the types that the code declares and records of data.
-DATA = {'ℕ', 'Bool', 'List', 'String', 'Type', '→', '×'}
+DATA = {'ℕ', 'Bool', 'List', 'Option', 'Result', 'String', 'Type', '→', '×'}
 
 
 def blank(pattern, text):
@@ -45,9 +45,9 @@ def closing(code, i, pair):
 
 
 def functions(code):
-    """(line, name with its type, parameters, clauses by kind) of each `pub fn`."""
+    """(line, name with its type, parameters, clauses by kind) of each `pub fn`, and of each `From` and `TryFrom` for a type of others."""
     impls = [(m.start(), closing(code, m.end() - 1, '{}'), m.group(1)) for m in re.finditer(r'\bimpl\b[^{;]*?(\w+)\s*(?:<[^>]*>)?\s*\{', code)]
-    for m in re.finditer(r'\bpub\s+(?:(?:const|unsafe|extern)\s+)*fn\s+(\w+)\s*(?:<[^>]*>)?\s*\(', code):
+    for m in re.finditer(r'\bpub\s+(?:(?:const|unsafe|extern)\s+)*fn\s+(\w+)\s*(<(?:->|<[^<>]*>|[^<>])*>)?\s*\(', code):
         name = '::'.join([t for start, end, t in impls if start < m.start() < end] + [m.group(1)])
         end = closing(code, m.end() - 1, '()')
         clauses, i = {'requires': '', 'ensures': ''}, end
@@ -58,7 +58,14 @@ def functions(code):
                 clauses[w.group(1)] += code[w.start():i]
             else:
                 i = closing(code, i, '[]') if code[i] == '[' else i + 1
-        yield code.count('\n', 0, m.start()) + 1, name, code[m.end():end - 1], clauses
+        yield code.count('\n', 0, m.start()) + 1, name, (m.group(2) or '') + code[m.end():end - 1], clauses
+    # a conversion: what it gives is a ghost member, and a type that is not public has none for others
+    for m in re.finditer(r'\bimpl\s+(Try)?From<[^{;]*>\s+for\s+(\w+)\s*\{', code):
+        if re.search(rf'(?m)^(?:pub\(crate\) )?(?:enum|struct) {m.group(2)}\b', code):
+            continue
+        gives = re.search(r'\bghost (?:try_)?from_gives = \{', code[m.end():closing(code, m.end() - 1, '{}')])
+        fn = 'try_from' if m.group(1) else 'from'
+        yield code.count('\n', 0, m.start()) + 1, f'{m.group(2)}::{fn}', '', {'requires': '', 'ensures': gives.group(0) if gives else ''}
 
 
 def lent_outputs(params, writers):
@@ -116,8 +123,8 @@ def source_faults(root, crate, met):
                 met.add(f'{crate}::{name}')
                 if f'{crate}::{name}' not in argued:
                     yield f'{at} has a requires that docs/STATEMENTS.md does not list'
-                elif not re.fullmatch(r'(\w+::)*put(_\w+)?', name) or not lent:
-                    yield f'{at} has a requires and is no part writer'
+                elif not (re.fullmatch(r'(\w+::)*put(_\w+)?', name) and lent) and not re.search(r'<[^>]*:\s*Fn(Mut|Once)?\(', params):
+                    yield f'{at} has a requires and is no part writer, and takes no function'
 
 
 # ---- records that claim something
@@ -173,6 +180,7 @@ def claims(root):
         antt = antt_of(f)
         found += [(f.relative_to(root).parts[1], name, fields) for name, fields in records(antt)]
         made += [(name, re.findall(r' : (.*)', cases)) for name, cases in re.findall(r'(?m)^(?:pub )?data (\S+) : Type 0 where\n((?:  \S.*\n?)+)', antt)]
+        made += [(name, [kind]) for name, kind in re.findall(r'(?m)^abbrev (?:pub )?(\S+) : Type 0\n\1 = (.*)', antt)]
         for m in re.finditer(r'(?m)^use \S*\.declared\.\S*\.\{([^}]*)\}', antt):
             known |= {n.split(' as ')[-1].strip() for n in m.group(1).split(',')}
     while True:  # a record of data is data for the next, and so is what is made of data alone

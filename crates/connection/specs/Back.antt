@@ -14,9 +14,9 @@ pub record ChannelBack (valid : ℕ → Bool) : Type 0 where
   pub turned_away : (n : ℕ) → valid n ≡ false → channel_of valid n ≡ Err (not_valid n)
 
 pub record UnitBack : Type 0 where
-  -- `value` of what `from_low_bits` makes is bits 1 to 0
+  -- the number of what `from_low_bits` makes is bits 1 to 0
   pub low : (n : ℕ) → unit_number (unit_of n) ≡ bits 1 0 n
-  -- `value` of what `new` accepts is the number given
+  -- the number of what `try_from` accepts is the number given
   pub back : (n : ℕ) (u : LogicalUnit) → unit_named n ≡ Ok u → unit_number u ≡ n
   -- a number up to 3 is accepted, any other is turned away
   pub taken : (n : ℕ) → n ≤ 3 → unit_named n ≡ Ok (unit_of n)
